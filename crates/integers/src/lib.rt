@@ -1,0 +1,61 @@
+// Leaf functions on signed numbers. The laws that all crates above cite are in proofs/.
+ghost use mathlib.Core.Path.{_≡_};
+ghost use mathlib.Core.Bool.{_&&_};
+ghost use Prim.Native.Nat.{_*_, _^_, _<_};
+ghost use lib.IntN.{pos, natAbs, negℤ, _*ℤ_};
+ghost use lib.Signed.{leZ};
+ghost use Rattle.integers.specs.Ranges.{inRange};
+
+// The order of two signed numbers. (A call, where `<=` would be, hands its caller an equation of the Boolean.)
+pub fn at_most(a: i64, b: i64) -> bool
+    ensures { λ r. ⌜ r ≡ leZ a b ⌝ }
+{
+    a <= b
+}
+
+// Both tests hold: no branch is left for the caller's proof to follow.
+pub fn both(a: bool, b: bool) -> bool
+    ensures { λ r. ⌜ r ≡ (a && b) ⌝ }
+{
+    if a { b } else { false }
+}
+
+// `lo <= x <= hi`
+pub fn within(lo: i64, hi: i64, x: i64) -> bool
+    ensures { λ r. ⌜ r ≡ inRange lo hi x ⌝ }
+{
+    both(at_most(lo, x), at_most(x, hi))
+}
+
+// The size of a number without its sign; that of `i64::MIN` is 2^63.
+pub fn magnitude(x: i64) -> u64
+    ensures { λ r. ⌜ r ≡ natAbs x ⌝ }
+{
+    if x < 0 {
+        (-(x + 1)) as u64 + 1
+    } else {
+        x as u64
+    }
+}
+
+pub fn negated(x: i64) -> i64
+    requires { ⌜ natAbs x < 2 ^ 63 ⌝ }
+    ensures { λ r. ⌜ r ≡ negℤ x ⌝ }
+{
+    -x
+}
+
+// A quantity times a price.
+pub fn product(quantity: i64, price: i64) -> i64
+    requires { ⌜ natAbs quantity * natAbs price < 2 ^ 63 ⌝ }
+    ensures { λ r. ⌜ r ≡ quantity *ℤ price ⌝ }
+{
+    quantity * price
+}
+
+pub fn signed(n: u64) -> i64
+    requires { ⌜ n < 2 ^ 63 ⌝ }
+    ensures { λ r. ⌜ r ≡ pos n ⌝ }
+{
+    n as i64
+}
