@@ -1,8 +1,8 @@
 -- Tests as numbers, counts of the elements that pass a test, sums of naturals, and lists given place by place. Assumes nothing.
-use mathlib.Core.Path.{_≡_, refl, sym, ap, ap₂, _∙_}
+use mathlib.Core.Path.{_≡_, refl, ap, ap₂}
 use mathlib.Core.Bool.{Bool, true, false, _&&_}
 use mathlib.Core.List.{List, [], _∷_, map}
-use Prim.Native.Nat.{ℕ, zero, suc, _+_, _-_, _≤_, _<_, min, zero-le}
+use Prim.Native.Nat.{ℕ, zero, suc, _+_, _-_, _*_, _≤_, _<_, min, zero-le}
 use native.Mathlib.Omega.{arith}
 use native.Mathlib.Nat.{not-suc-le-zero, le-of-suc-le-suc}
 use native.Mathlib.Numerals.{add-one}
@@ -86,6 +86,12 @@ unfolding sum
 sum-take-le xs zero = omega arith
 sum-take-le [] (suc i) = omega arith
 sum-take-le (x ∷ xs) (suc i) = omega (arith, sum-take-le xs i)
+
+-- elements that are at most n
+pub sum-le : (n : ℕ) (xs : List ℕ) → ((i : ℕ) → getD xs i 0 ≤ n) → sum xs ≤ length xs * n
+unfolding sum
+sum-le n [] h = omega arith
+sum-le n (x ∷ xs) h = omega (arith, h 0, sum-le n xs (λ i. h (suc i)))
 
 pub getD-le-sum : (xs : List ℕ) (i : ℕ) → getD xs i 0 ≤ sum xs
 unfolding sum

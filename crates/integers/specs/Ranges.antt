@@ -1,6 +1,5 @@
 -- Tests of signed numbers. Assumes nothing.
 use mathlib.Core.Bool.{Bool, _&&_}
-use Prim.Native.Nat.{ℕ, _≤_}
 use lib.Dec.{eqb}
 use lib.IntN.{ℤ, natAbs}
 use lib.Signed.{leZ}
