@@ -1,6 +1,7 @@
 -- The theorems of specs/Guarantees.antt. Assumes nothing.
 use mathlib.Core.Path.{_≡_, refl, ap}
 use mathlib.Core.Bool.{Bool, true, false}
+use mathlib.Core.List.{List}
 use Prim.Native.Nat.{ℕ, _+_, _*_, _≤_, _<_}
 use native.Mathlib.Omega.{arith}
 use native.Mathlib.Nat.{le-of-mul-le-mul-right, lt-of-mul-lt-mul-right, mul-le-mul-right}
@@ -55,3 +56,7 @@ no-more-than-size sizes total some le i = beyond (ltb i (length sizes)) refl
         let h = ltb-true i (length sizes) e in
         rw (settled-getD sizes total i h, settled-at sizes total some i h) (go (gets sizes total some i h) (gets-some sizes total some i h))
     beyond false e = omega (arith, List·getD-eq-default (settled sizes total) 0 {n = i} (omega (arith, settled-length sizes total, ltb-false i (length sizes) e)))
+
+-- one settled size for each user
+pub settled-long : (sizes : List ℕ) (total : ℕ) → length (settled sizes total) ≡ length sizes
+settled-long = settled-length

@@ -5,13 +5,14 @@ use mathlib.Core.Bool.{Bool, true, false}
 use Prim.Native.Nat.{ℕ, suc, _+_, _*_, _-_, _^_, _≤_, _<_}
 use native.Mathlib.Omega.{arith}
 use native.Mathlib.Nat.{le-refl, le-trans, lt-of-le-of-lt}
-use lib.Dec.{ltb}
-use borrow.Author.Tests.{ltb-true, ltb-false}
+use lib.Dec.{ltb, eqb}
+use borrow.Author.Tests.{ltb-true, ltb-false, ne-eqb}
 use lib.IntN.{ℤ, pos, negsuc, natAbs, _+ℤ_, _-ℤ_, _*ℤ_}
 use lib.Signed.{mag}
 use mir.Syntax.{w64}
 use mir.Val.{SFits, toZ, ofZ, sel, hbits, bits}
 use mir.ValLaws.{toZ-ofZ}
+use Rattle.integers.specs.Ranges.{isZero}
 use Rattle.integers.proofs.Sizes.{size-add, size-sub, size-mul-le, size-eq}
 
 -- ---- what is read back
@@ -53,6 +54,13 @@ fits-size {x} f = go x (f .sfits)
 -- `==` compares the bits
 pub bits-eq : {x y : ℤ} → SFits w64 x → SFits w64 y → ofZ w64 x ≡ ofZ w64 y → x ≡ y
 bits-eq f g e = sym (read f) ∙ ap (toZ w64) e ∙ read g
+
+pub zero-bits : {x : ℤ} → SFits w64 x → eqb (ofZ w64 x) 0 ≡ isZero x
+zero-bits {x} f = go x (f .sfits)
+  where
+    go : (x : ℤ) → mag x < 2 ^ 63 → eqb (ofZ w64 x) 0 ≡ isZero x
+    go (pos n) h = refl
+    go (negsuc n) h = ne-eqb (2 ^ bits w64 - suc n) 0 (λ e. omega arith) ∙ sym (ne-eqb (suc n) 0 (λ e. omega arith))
 
 -- ---- what fits, as rules of `omega` for a goal: `omega fitting` closes the need of one operation
 

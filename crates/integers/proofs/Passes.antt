@@ -2,8 +2,9 @@
 -- after a turn, and at the end. Assumes nothing.
 use mathlib.Core.Path.{_≡_, refl, sym, _∙_}
 use mathlib.Core.Bool.{Bool, true, false}
-use mathlib.Core.List.{List, _++_, append-nil}
-use Prim.Native.Nat.{ℕ, _+_, _*_, _^_, _≤_, _<_}
+use mathlib.Core.List.{List, [], _∷_, _++_, append-nil}
+use Prim.Native.Nat.{ℕ, zero, suc, _+_, _*_, _^_, _≤_, _<_}
+use native.Mathlib.Nat.{not-suc-le-zero, le-of-suc-le-suc}
 use native.Mathlib.Numerals.{add-one}
 use native.Mathlib.Omega.{arith}
 use lib.IntN.{ℤ, pos, natAbs, _+ℤ_}
@@ -14,6 +15,7 @@ use mir.Val.{SFits, toZ, ofZ}
 use Rattle.integers.specs.Lists.{sumℤ, every, AtMost}
 use Rattle.integers.proofs.Machine.{read, read-le, fits-add}
 use Rattle.integers.proofs.Sizes.{size-eq}
+use Rattle.integers.proofs.Tests.{and-true, both-true}
 use Rattle.integers.proofs.Sums.{sumℤ-step, sum-take-bound}
 
 -- ---- a loop that writes the list t over the list o, of any elements, fresh or in place: it has come to i
@@ -61,6 +63,18 @@ module _ {A : Type 0} (p : A → Bool) (xs : List A) (i : ℕ) where
   pub every-stop : (z : A) → i < length xs → p (getD xs i z) ≡ false → every p (drop i xs) ≡ false
   unfolding every
   every-stop z h e = rw (drop-cons xs i z, e)
+
+-- what holds of every element holds of each, and the other way round
+pub every-at : {A : Type 0} (p : A → Bool) (xs : List A) (i : ℕ) (z : A) → every p xs ≡ true → i < length xs → p (getD xs i z) ≡ true
+unfolding every
+every-at p [] i z e h = absurd (not-suc-le-zero h)
+every-at p (x ∷ xs) zero z e h = and-true (p x) (every p xs) e .0
+every-at p (x ∷ xs) (suc i) z e h = every-at p xs i z (and-true (p x) (every p xs) e .1) (le-of-suc-le-suc h)
+
+pub every-of : {A : Type 0} (p : A → Bool) (xs : List A) (z : A) → ((i : ℕ) → i < length xs → p (getD xs i z) ≡ true) → every p xs ≡ true
+unfolding every
+every-of p [] z h = refl
+every-of p (x ∷ xs) z h = both-true (h 0 (omega arith)) (every-of p xs z (λ i l. h (suc i) (omega arith)))
 
 -- ---- a loop that adds the elements of xs to a signed local, whose bits are s: the invariant is `toZ w64 s ≡ sumℤ (take i xs)`
 module _ (xs : List ℤ) (i s : ℕ) (v : ℤ) (inv : toZ w64 s ≡ sumℤ (take i xs)) (is : v ≡ getD xs i (pos 0)) where

@@ -4,7 +4,7 @@ ghost use mathlib.Core.Bool.{_&&_};
 ghost use Prim.Native.Nat.{_*_, _^_, _<_};
 ghost use lib.IntN.{pos, natAbs, negℤ, _*ℤ_};
 ghost use lib.Signed.{leZ};
-ghost use Rattle.integers.specs.Ranges.{inRange};
+ghost use Rattle.integers.specs.Ranges.{inRange, isZero, natural};
 
 // The order of two signed numbers. (A call, where `<=` would be, hands its caller an equation of the Boolean.)
 pub fn at_most(a: i64, b: i64) -> bool
@@ -58,4 +58,17 @@ pub fn signed(n: u64) -> i64
     ensures { λ r. ⌜ r ≡ pos n ⌝ }
 {
     n as i64
+}
+
+pub fn is_zero(x: i64) -> bool
+    ensures { λ r. ⌜ r ≡ isZero x ⌝ }
+{
+    x == 0
+}
+
+// A count as a number of places; what is below 0 counts nothing.
+pub fn natural(x: i64) -> usize
+    ensures { λ r. ⌜ r ≡ natural x ⌝ }
+{
+    if x < 0 { 0 } else { x as usize }
 }

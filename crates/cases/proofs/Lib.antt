@@ -1,0 +1,2 @@
+-- The figures, proved.
+mod Figures

@@ -1,0 +1,2 @@
+-- "Figures to be proved: cases A to K".
+pub mod Cases

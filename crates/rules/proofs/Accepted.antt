@@ -1,0 +1,144 @@
+-- What an accepted hour and an accepted closing may count on: all that the causes rule out. Assumes nothing.
+use mathlib.Core.Path.{_≡_, refl, sym}
+use mathlib.Core.Bool.{true, false, not, _&&_}
+use mathlib.Core.List.{List}
+use Prim.Native.Nat.{_≤_}
+use borrow.Author.Tests.{leb-true, eqb-true, not-true}
+use lib.Dec.{lit<, leb}
+use lib.IntN.{ℤ, pos, negsuc, negℤ}
+use lib.ListN.{length}
+use lib.Signed.{leZ}
+use Rattle.integers.specs.Ranges.{natural}
+use Rattle.integers.proofs.Linear.{not-both}
+use Rattle.integers.proofs.Tests.{and-true}
+use Rattle.rules.specs.declared.Day.{Day}
+use Rattle.rules.specs.declared.HourAnswer.the-variants.{Refused as HourRefused}
+use Rattle.rules.specs.declared.ClosingAnswer.the-variants.{Refused as ClosingRefused}
+use Rattle.rules.specs.declared.HourTerms.{HourTerms}
+use Rattle.rules.specs.Limits.{usersFit, zoneFit, upperFit, lowerFit}
+use Rattle.rules.specs.Days.{users, isClosed}
+use Rattle.rules.specs.Hours.{Hour, Closing}
+use Rattle.rules.specs.Causes.{hourCause, closingCause, dayFit, tableLong, hourLong, closingLong, hourNext, allDone, tableFit, termsFit, pricesFit, amountsFit, poolingAdds, beforeFit}
+use Rattle.rules.specs.Answers.{hourAnswer, hourNumber, closingAnswer, closingNumber}
+use Rattle.rules.proofs.Refusing.{unless-none, then-none, by-number}
+use Rattle.rules.proofs.Zones.{Zone, zone-of}
+
+-- ---- an hour is accepted if and only if no listed cause exists
+pub record HourFit (d : Day) (t : List ℤ) (g : Hour) : Type 0 where
+  pub day : dayFit d ≡ true
+  pub lengths : hourLong d t g ≡ true
+  pub zone : zoneFit (g .terms .zone) ≡ true
+  pub open′ : not (isClosed (g .terms .zone) d) ≡ true
+  pub next : hourNext d (g .terms) ≡ true
+  pub table : tableFit d t ≡ true
+  pub terms : termsFit (g .terms) ≡ true
+  pub amounts : amountsFit g ≡ true
+  pub pooling : poolingAdds g ≡ true
+  pub positions : beforeFit d t g ≡ true
+
+module _ (d : Day) (t : List ℤ) (g : Hour) where
+  pub hour-fit : hourCause d t g ≡ 0 → HourFit d t g
+  unfolding hourCause
+  hour-fit k2 =
+      let k3 = then-none k2 .1 in
+      let k4 = then-none k3 .1 in
+      let k5 = then-none k4 .1 in
+      let k6 = then-none k5 .1 in
+      let k7 = then-none k6 .1 in
+      let k8 = then-none k7 .1 in
+      let k9 = then-none k8 .1 in
+      let k10 = then-none k9 .1 in
+      record {
+        day = unless-none _ _ (lit< tt) (then-none k2 .0);
+        lengths = unless-none _ _ (lit< tt) (then-none k3 .0);
+        zone = unless-none _ _ (lit< tt) (then-none k4 .0);
+        open′ = unless-none _ _ (lit< tt) (then-none k5 .0);
+        next = unless-none _ _ (lit< tt) (then-none k6 .0);
+        table = unless-none _ _ (lit< tt) (then-none k7 .0);
+        terms = unless-none _ _ (lit< tt) (then-none k8 .0);
+        amounts = unless-none _ _ (lit< tt) (then-none k9 .0);
+        pooling = unless-none _ _ (lit< tt) (then-none k10 .0);
+        positions = unless-none _ _ (lit< tt) (then-none k10 .1);
+      }
+
+  pub hour-number : hourNumber (hourAnswer d t g) ≡ hourCause d t g
+  unfolding hourNumber hourAnswer
+  hour-number = by-number hourNumber _ (λ k. HourRefused (record { number = k; day = d })) refl (λ k. refl) (hourCause d t g)
+
+-- ---- a closing is accepted if and only if no listed cause exists
+pub record ClosingFit (d : Day) (t : List ℤ) (g : Closing) : Type 0 where
+  pub day : dayFit d ≡ true
+  pub lengths : closingLong d t g ≡ true
+  pub zone : zoneFit (g .terms .zone) ≡ true
+  pub open′ : not (isClosed (g .terms .zone) d) ≡ true
+  pub done : allDone d (g .terms) ≡ true
+  pub table : tableFit d t ≡ true
+  pub prices : pricesFit (g .terms .«excess_price») (g .terms .«shortfall_price») ≡ true
+
+module _ (d : Day) (t : List ℤ) (g : Closing) where
+  pub closing-fit : closingCause d t g ≡ 0 → ClosingFit d t g
+  unfolding closingCause
+  closing-fit k2 =
+      let k3 = then-none k2 .1 in
+      let k4 = then-none k3 .1 in
+      let k5 = then-none k4 .1 in
+      let k6 = then-none k5 .1 in
+      let k7 = then-none k6 .1 in
+      record {
+        day = unless-none _ _ (lit< tt) (then-none k2 .0);
+        lengths = unless-none _ _ (lit< tt) (then-none k3 .0);
+        zone = unless-none _ _ (lit< tt) (then-none k4 .0);
+        open′ = unless-none _ _ (lit< tt) (then-none k5 .0);
+        done = unless-none _ _ (lit< tt) (then-none k6 .0);
+        table = unless-none _ _ (lit< tt) (then-none k7 .0);
+        prices = unless-none _ _ (lit< tt) (then-none k7 .1);
+      }
+
+  pub closing-number : closingNumber (closingAnswer d t g) ≡ closingCause d t g
+  unfolding closingNumber closingAnswer
+  closing-number = by-number closingNumber _ (λ k. ClosingRefused (record { number = k; day = d })) refl (λ k. refl) (closingCause d t g)
+
+-- ---- what both may count on, in plain numbers
+pub record Sound (d : Day) (t : List ℤ) (zone : ℤ) : Type 0 where
+  pub some : 1 ≤ users d
+  pub few : users d ≤ 128
+  pub long : length t ≡ 256
+  pub zoned : Zone zone
+  pub opened : isClosed zone d ≡ false
+
+pub users-range : (n : ℤ) → usersFit n ≡ true → (1 ≤ natural n) × (natural n ≤ 128)
+unfolding usersFit natural
+users-range (pos n) e = let k = and-true (leb 1 n) (leb n 128) e in (leb-true 1 n (k .0), leb-true n 128 (k .1))
+users-range (negsuc n) e = not-both (sym e)
+
+pub users-of : (d : Day) → dayFit d ≡ true → (1 ≤ users d) × (users d ≤ 128)
+unfolding dayFit users
+users-of d e = users-range (d .users) (and-true (usersFit (d .users)) _ e .0)
+
+pub table-long : (t : List ℤ) → tableLong t ≡ true → length t ≡ 256
+unfolding tableLong
+table-long t e = eqb-true (length t) 256 e
+
+sound-of : (d : Day) (t : List ℤ) (zone : ℤ) → dayFit d ≡ true → tableLong t ≡ true → zoneFit zone ≡ true → not (isClosed zone d) ≡ true → Sound d t zone
+sound-of d t zone day long zoned open′ =
+    let n = users-of d day in
+    record { some = n .0; few = n .1; long = table-long t long; zoned = zone-of zone zoned; opened = not-true (isClosed zone d) open′ }
+
+pub hour-sound : (d : Day) (t : List ℤ) (g : Hour) → hourCause d t g ≡ 0 → Sound d t (g .terms .zone)
+unfolding hourLong
+hour-sound d t g k =
+    let f = hour-fit d t g k in
+    sound-of d t (g .terms .zone) (f .day) (and-true (tableLong t) _ (f .lengths) .0) (f .zone) (f .open′)
+
+pub closing-sound : (d : Day) (t : List ℤ) (g : Closing) → closingCause d t g ≡ 0 → Sound d t (g .terms .zone)
+unfolding closingLong
+closing-sound d t g k =
+    let f = closing-fit d t g k in
+    sound-of d t (g .terms .zone) (f .day) (and-true (tableLong t) _ (f .lengths) .0) (f .zone) (f .open′)
+
+-- no threshold is on the wrong side of zero
+pub thresholds-sound : (k : HourTerms) → termsFit k ≡ true → (leZ (pos 0) (k .upper) ≡ true) × (leZ (k .lower) (pos 0) ≡ true)
+unfolding termsFit upperFit lowerFit
+thresholds-sound k e =
+    let both = and-true (upperFit (k .upper)) (lowerFit (k .lower)) (and-true (upperFit (k .upper) && lowerFit (k .lower)) _ e .0) in
+    (and-true (leZ (pos 0) (k .upper)) _ (both .0) .0, and-true (leZ (negℤ (pos 1_000_000_000)) (k .lower)) (leZ (k .lower) (pos 0)) (both .1) .1)

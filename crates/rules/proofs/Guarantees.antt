@@ -1,0 +1,91 @@
+-- The theorems of specs/Guarantees.antt. Assumes nothing.
+use mathlib.Core.Path.{_≡_, sym, ap, _∙_, subst}
+use mathlib.Core.Bool.{false}
+use mathlib.Core.Logic.{_⊎_, inl, inr}
+use mathlib.Core.List.{List}
+use Prim.Native.Nat.{ℕ, _≤_, _<_}
+use native.Mathlib.Omega.{arith}
+use native.Mathlib.Nat.{eq-zero-or-pos}
+use lib.IntN.{ℤ, pos, _+ℤ_, +ℤ-idr}
+use lib.ListN.{length, getD, length-map, List·getD-map}
+use Rattle.integers.specs.Lists.{count}
+use Rattle.integers.proofs.Counts.{count-map}
+use Rattle.rules.specs.declared.Day.{Day}
+use Rattle.rules.specs.declared.HourDone.{HourDone}
+use Rattle.rules.specs.declared.Marks.{Marks}
+use Rattle.rules.specs.declared.Side.{Side}
+use Rattle.rules.specs.declared.Outcome.the-variants.{Settled}
+use Rattle.rules.specs.declared.HourAnswer.the-variants.{Refused as HourRefused, Done}
+use Rattle.rules.specs.Days.{users, newDay, dayAfterHour}
+use Rattle.rules.specs.Hours.{before}
+use Rattle.rules.specs.Market.{Imbalance, within, excess, shortfall, caused, causers, marks, outcome}
+use Rattle.rules.specs.Causes.{hourCause, beforeFit}
+use Rattle.rules.specs.Answers.{hourAnswer, hourImbalance, hourQuantity}
+use Rattle.rules.specs.History.{opened, firstSum}
+use Rattle.rules.specs.Guarantees.{Conservation, ClosedIsZero, Accuracy, marked, MarksAreCausers}
+use Rattle.rules.proofs.Refusing.{by-none, by-some}
+use Rattle.rules.proofs.Zones.{zone-of}
+use Rattle.rules.proofs.Accepted.{hour-fit, hour-sound, hour-number, thresholds-sound}
+use Rattle.rules.proofs.Marking.{marked-at, marks-number}
+use Rattle.rules.proofs.Settling.{settles}
+use Rattle.rules.proofs.Conserving.{length-before, positions-left, balance, opened-by, open-users, open-zero, closed-zero}
+
+pub conservation : Conservation
+unfolding opened users newDay
+conservation n t d e calls zone z user h =
+    let (k, q) = opened-by n t d e in
+    let zoned = zone-of zone z in
+    let few : user < users d = subst (λ (d : Day). user < users d) (sym q) h in
+    sym (+ℤ-idr (firstSum zone user (opened d n t) calls))
+    ∙ ap (λ (p : ℤ). firstSum zone user (opened d n t) calls +ℤ p) (sym (open-zero n t k zoned user (omega (arith, open-users n t k))))
+    ∙ balance zone user zoned (opened d n t) calls few
+
+pub closed-is-zero : ClosedIsZero
+closed-is-zero s calls zone z c p h = closed-zero zone (zone-of zone z) s calls c p h
+
+pub accuracy : Accuracy
+unfolding hourImbalance hourQuantity beforeFit
+accuracy d t g a =
+    let k : hourCause d t g ≡ 0 = sym (hour-number d t g) ∙ a in
+    let f = hour-fit d t g k in
+    let b = thresholds-sound (g .terms) (f .terms) in
+    rw (by-none (hourCause d t g) _ _ k, positions-left d t g k) (settles (g .terms .upper) (g .terms .lower) (before d t g) (b .0) (b .1) (f .positions))
+
+-- ---- the marks
+
+-- a place beyond the users is no causer's
+causer-at : (i : Imbalance) (ps : List ℤ) (p : ℕ) → getD (causers i ps) p false ≡ caused i (getD ps p (pos 0))
+unfolding causers caused
+causer-at within ps p = List·getD-map (caused within) ps p (pos 0)
+causer-at (excess n) ps p = List·getD-map (caused (excess n)) ps p (pos 0)
+causer-at (shortfall n) ps p = List·getD-map (caused (shortfall n)) ps p (pos 0)
+
+marks-are : (i : Imbalance) (ps : List ℤ) (side : Side) (m : Marks) → outcome i ps ≡ Settled side m → m ≡ marks (causers i ps)
+unfolding outcome
+marks-are within ps side m e = let z : _≡_ {A = ℕ} 0 1 = cc in absurd (omega arith)
+marks-are (excess n) ps side m e = cc
+marks-are (shortfall n) ps side m e = cc
+
+pub marks-are-causers : MarksAreCausers
+unfolding hourAnswer causers
+marks-are-causers d t g d' side m e = go (eq-zero-or-pos (hourCause d t g))
+  where
+    i : Imbalance
+    i = hourImbalance d t g
+
+    ps : List ℤ
+    ps = before d t g
+
+    go : (hourCause d t g ≡ 0) ⊎ (0 < hourCause d t g)
+        → ((p : ℕ) → p < 128 → marked m p ≡ caused (hourImbalance d t g) (getD (before d t g) p (pos 0)))
+        × (m .number ≡ count (caused (hourImbalance d t g)) (before d t g))
+    go (inl k) =
+        let q : Done (record { day = dayAfterHour (g .terms .zone) d; outcome = outcome i ps }) ≡ Done (record { day = d'; outcome = Settled side m }) = sym (by-none _ _ _ k) ∙ e in
+        let r : _≡_ {A = HourDone} (record { day = dayAfterHour (g .terms .zone) d; outcome = outcome i ps }) (record { day = d'; outcome = Settled side m }) = cc in
+        let s : m ≡ marks (causers i ps) = marks-are i ps side m (ap (λ (x : HourDone). x .outcome) r) in
+        let few : length (causers i ps) ≤ 128 = omega (arith, length-map ps (caused i), length-before d t g, hour-sound d t g k .few) in
+        rw s ((λ p h. marked-at (causers i ps) few p h ∙ causer-at i ps p), marks-number (causers i ps) few ∙ count-map (λ b. b) (caused i) ps)
+    go (inr k) =
+        let q : HourRefused (record { number = hourCause d t g; day = d }) ≡ Done (record { day = d'; outcome = Settled side m }) = sym (by-some _ _ _ k) ∙ e in
+        let z : _≡_ {A = ℕ} 0 1 = cc in
+        absurd (omega arith)

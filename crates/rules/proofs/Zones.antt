@@ -1,0 +1,93 @@
+-- The two zones: their parts of the table, and their parts of the record. Assumes nothing.
+use mathlib.Core.Path.{_≡_, refl, sym, ap, _∙_}
+use mathlib.Core.Bool.{Bool, true, false, cond}
+use mathlib.Core.List.{List, _++_}
+use Prim.Native.Nat.{ℕ, zero, suc, _≤_, _<_}
+use native.Mathlib.Omega.{arith}
+use borrow.Author.Tests.{leb-true}
+use lib.Dec.{leb}
+use lib.IntN.{ℤ, pos, negsuc}
+use lib.ListN.{length, getD, take, drop, length-append, length-take, length-drop, List·getD-append}
+use lib.Seq.{take-at, drop-at, length-take-le}
+use Rattle.integers.specs.Ranges.{isZero}
+use Rattle.integers.proofs.Linear.{not-both}
+use Rattle.integers.proofs.Tests.{and-true}
+use Rattle.rules.specs.declared.Day.{Day}
+use Rattle.rules.specs.declared.ZoneDay.{ZoneDay}
+use Rattle.rules.specs.Limits.{zoneFit}
+use Rattle.rules.specs.Days.{zoneDay, isClosed, withZoneDay, dayAfterHour, dayAfterClosing, firstPlace, part, withPart, onto}
+
+pub data Zone : ℤ → Type 0 where
+  H : Zone (pos 0)
+  L : Zone (pos 1)
+
+pub zone-of : (z : ℤ) → zoneFit z ≡ true → Zone z
+unfolding zoneFit
+zone-of (pos zero) e = H
+zone-of (pos (suc zero)) e = L
+zone-of (pos (suc (suc n))) e = absurd (omega (arith, leb-true (suc (suc n)) 1 (and-true (leb 0 (suc (suc n))) _ e .1)))
+zone-of (negsuc n) e = not-both (sym e)
+
+-- ---- the table
+module _ (t : List ℤ) (long : length t ≡ 256) where
+  pub length-part : {z : ℤ} → Zone z → length (part z t) ≡ 128
+  unfolding part firstPlace
+  length-part H = simp length-take (omega arith)
+  length-part L = simp (length-take, length-drop) (omega arith)
+
+  module _ (f : List ℤ → List ℤ) where
+    -- a changed part is what it was changed to
+    pub part-changed : {z : ℤ} → Zone z → length (f (part z t)) ≡ 128 → part z (withPart z f t) ≡ f (part z t)
+    unfolding withPart part firstPlace
+    part-changed H l = take-at (f (take 128 t)) (drop 128 t) 128 l
+    part-changed L l =
+        ap (take 128) (drop-at (take 128 t) (f (take 128 (drop 128 t)) ++ drop 256 t) 128 (length-take-le 128 t (omega arith)))
+        ∙ take-at (f (take 128 (drop 128 t))) (drop 256 t) 128 l
+
+    -- and the other part is untouched
+    pub part-other : {z y : ℤ} → Zone z → Zone y → (z ≡ y → ⊥) → length (f (part z t)) ≡ 128 → part y (withPart z f t) ≡ part y t
+    unfolding withPart part firstPlace
+    part-other H H n l = absurd (n refl)
+    part-other H L n l = ap (take 128) (drop-at (f (take 128 t)) (drop 128 t) 128 l)
+    part-other L H n l = take-at (take 128 t) (f (take 128 (drop 128 t)) ++ drop 256 t) 128 (length-take-le 128 t (omega arith))
+    part-other L L n l = absurd (n refl)
+
+-- a part with its first places replaced
+pub length-onto : (xs p : List ℤ) → length xs ≤ length p → length (onto xs p) ≡ length p
+unfolding onto
+length-onto xs p h = simp (length-append, length-drop) (omega arith)
+
+pub getD-onto : (xs p : List ℤ) (i : ℕ) → i < length xs → getD (onto xs p) i (pos 0) ≡ getD xs i (pos 0)
+unfolding onto
+getD-onto xs p i h = List·getD-append xs (drop (length xs) p) (pos 0) i h
+
+-- ---- the record
+
+-- the user count stays
+pub users-kept : (z : ℤ) (f : ZoneDay → ZoneDay) (d : Day) → withZoneDay z f d .users ≡ d .users
+unfolding withZoneDay
+users-kept z f d = go (isZero z)
+  where
+    go : (b : Bool) → (cond {A = Day} b (record { users = d .users; h = f (d .h); l = d .l }) (record { users = d .users; h = d .h; l = f (d .l) })) .users ≡ d .users
+    go true = refl
+    go false = refl
+
+-- a closed zone stays closed, and a closing closes its zone
+pub closed-hour : (y z : ℤ) (d : Day) → Zone y → Zone z → isClosed y (dayAfterHour z d) ≡ isClosed y d
+unfolding dayAfterHour withZoneDay isClosed zoneDay
+closed-hour y z d H H = refl
+closed-hour y z d H L = refl
+closed-hour y z d L H = refl
+closed-hour y z d L L = refl
+
+pub closed-closing : (z : ℤ) (d : Day) → Zone z → isClosed z (dayAfterClosing z d) ≡ true
+unfolding dayAfterClosing withZoneDay isClosed zoneDay
+closed-closing z d H = refl
+closed-closing z d L = refl
+
+pub closed-still : (y z : ℤ) (d : Day) → Zone y → Zone z → isClosed y d ≡ true → isClosed y (dayAfterClosing z d) ≡ true
+unfolding dayAfterClosing withZoneDay isClosed zoneDay
+closed-still y z d H H e = refl
+closed-still y z d H L e = e
+closed-still y z d L H e = e
+closed-still y z d L L e = refl

@@ -1,0 +1,25 @@
+-- Each branch by what the range test answered. Assumes nothing.
+use borrow.Author.Needs.{needs}
+use Rattle.integers.proofs.Machine.{read}
+use Rattle.rules.specs.Limits.{priceFit}
+use Rattle.rules.proofs.Checked.{answered}
+use Rattle.rules.proofs.limits.Price.checked.Statement.{statement}
+use Rattle.rules.proofs.limits.Price.checked.Tie as tie
+
+within-requires : tie.Need-within-requires
+within-requires c κs = search needs
+
+returns : tie.Need-returns
+unfolding priceFit
+returns c =
+    let s = c .before .before in
+    simp (read (s .fits .micros), answered priceFit (s .fits .micros) (c .before .within .ensures) (c .if1 .taken))
+
+returns-2 : tie.Need-returns-2
+unfolding priceFit
+returns-2 c =
+    let s = c .before .before in
+    simp (answered priceFit (s .fits .micros) (c .before .within .ensures) (c .if1 .left))
+
+pub checked-spec : {M : Type 1} → statement M
+checked-spec = tie.close (tie.spec within-requires returns returns-2)

@@ -1,0 +1,87 @@
+-- Demand 3: what is proved of the definitions, for every input. The proofs are in proofs/Guarantees.antt. Assumes nothing.
+use mathlib.Core.Path.{_≡_}
+use mathlib.Core.Bool.{Bool, true, false, cond}
+use mathlib.Core.List.{List, map}
+use Prim.Native.Nat.{ℕ, _+_, _-_, _*_, _/_, _%_, _^_, _<_}
+use lib.Dec.{eqb, ltb}
+use lib.IntN.{ℤ, pos, natAbs, _+ℤ_, _-ℤ_}
+use lib.ListN.{getD, take}
+use lib.Signed.{_≤ℤ_}
+use Rattle.integers.specs.Ranges.{natural}
+use Rattle.integers.specs.Lists.{sum, sumℤ, count}
+use Rattle.rules.specs.declared.Day.{Day}
+use Rattle.rules.specs.declared.Marks.{Marks}
+use Rattle.rules.specs.declared.Side.{Side}
+use Rattle.rules.specs.declared.OpenAnswer.the-variants.{Opened}
+use Rattle.rules.specs.declared.HourAnswer.the-variants.{Done}
+use Rattle.rules.specs.declared.Outcome.the-variants.{Settled}
+use Rattle.rules.specs.Limits.{zoneFit, positionFit}
+use Rattle.rules.specs.Days.{users, part, place}
+use Rattle.rules.specs.Hours.{Hour, before}
+use Rattle.rules.specs.Market.{Imbalance, total, caused, sizes, signed}
+use Rattle.rules.specs.Answers.{openAnswer, hourAnswer, hourNumber, hourTable, hourQuantity, hourImbalance}
+use Rattle.rules.specs.History.{State, Call, opened, run, firstSum, secondSum, closes}
+
+-- ---- "no kilowatt-hour appears or vanishes (one theorem about the list)"
+
+-- On a day that opening opened, whatever is then called, for each zone and user: "At the end the first equals the second plus the user's place in the zone's part of the table."
+abbrev pub Conservation : Type 0
+Conservation =
+    (n : ℤ) (t : List ℤ) (d : Day) → openAnswer n t ≡ Opened d
+    → (calls : List Call) (zone : ℤ) → zoneFit zone ≡ true → (user : ℕ) → user < natural n
+    → firstSum zone user (opened d n t) calls ≡ secondSum zone user (opened d n t) calls +ℤ place zone user (run (opened d n t) calls .table)
+
+-- ---- "a closed zone holds zero everywhere"
+
+-- From whatever record and table: a zone whose closing was accepted in the list holds zero in all 128 places at the end.
+abbrev pub ClosedIsZero : Type 0
+ClosedIsZero =
+    (s : State) (calls : List Call) (zone : ℤ) → zoneFit zone ≡ true → closes zone s calls ≡ true
+    → (p : ℕ) → p < 128 → place zone p (run s calls .table) ≡ pos 0
+
+-- ---- "For any accepted hour: the market after it is within that hour's thresholds, who did not cause has quantity 0, who did is settled by rules 4 and 5, less than 1 kWh
+-- from the exact share."
+
+-- Of one user, whose position was p, whose quantity is q and whose position after is r, in an imbalance i; S is the sum of all causers' sizes.
+pub record UserAccurate (i : Imbalance) (S : ℕ) (p q r : ℤ) : Type 0 where
+  -- who did not cause
+  pub uncaused : caused i p ≡ false → q ≡ pos 0
+  -- the right sign: a sale in an excess, a purchase in a shortfall
+  pub sign : q ≡ signed i (natAbs q)
+  -- "that size times the sum differs from the product by less than the sum"
+  pub near : caused i p ≡ true → (natAbs q * S < total i * natAbs p + S) × (total i * natAbs p < natAbs q * S + S)
+  pub rest : r ≡ p -ℤ q
+  -- "It may reach zero and never crosses it."
+  pub not-below-zero : pos 0 ≤ℤ p → pos 0 ≤ℤ r
+  pub not-above-zero : p ≤ℤ pos 0 → r ≤ℤ pos 0
+  -- "A position, before or after settlement"
+  pub in-range : positionFit r ≡ true
+
+-- Of an hour with the positions ps before, the quantities qs and the positions rs after.
+pub record Accurate (upper lower : ℤ) (i : Imbalance) (ps qs rs : List ℤ) : Type 0 where
+  -- "The market after it is the sum of the positions after"
+  pub not-above : sumℤ rs ≤ℤ upper
+  pub not-below : lower ≤ℤ sumℤ rs
+  -- the settled sizes add to the total
+  pub adds-up : sum (map natAbs qs) ≡ total i
+  pub each : (user : ℕ) → UserAccurate i (sum (sizes i ps)) (getD ps user (pos 0)) (getD qs user (pos 0)) (getD rs user (pos 0))
+
+-- of any accepted hour, "in a list or alone"
+abbrev pub Accuracy : Type 0
+Accuracy =
+    (d : Day) (t : List ℤ) (g : Hour) → hourNumber (hourAnswer d t g) ≡ 0
+    → Accurate (g .terms .upper) (g .terms .lower) (hourImbalance d t g)
+    (before d t g) (hourQuantity d t g) (take (users d) (part (g .terms .zone) (hourTable d t g)))
+
+-- ---- the marks answered are the causers of rule 3, and their number is the causers' number
+
+-- whether a place is marked: by its bit of its word
+unfoldable pub marked : Marks → ℕ → Bool
+marked m p = eqb (cond (ltb p 64) (m .first / 2 ^ p) (m .second / 2 ^ (p - 64)) % 2) 1
+
+abbrev pub MarksAreCausers : Type 0
+MarksAreCausers =
+    (d : Day) (t : List ℤ) (g : Hour) (d' : Day) (side : Side) (m : Marks)
+    → hourAnswer d t g ≡ Done (record { day = d'; outcome = Settled side m })
+    → ((p : ℕ) → p < 128 → marked m p ≡ caused (hourImbalance d t g) (getD (before d t g) p (pos 0)))
+    × (m .number ≡ count (caused (hourImbalance d t g)) (before d t g))

@@ -1,0 +1,48 @@
+-- "Quantities and their ranges": the limits of document 01, each once. Assumes nothing.
+use mathlib.Core.Bool.{Bool}
+use lib.IntN.{ℤ, pos, negℤ}
+use Rattle.integers.specs.Ranges.{inRange}
+
+-- "Users in a day: 1 to 128"
+unfoldable pub usersFit : ℤ → Bool
+usersFit users = inRange (pos 1) (pos 128) users
+
+-- "Zones: 0 is H, 1 is L."
+unfoldable pub zoneFit : ℤ → Bool
+zoneFit zone = inRange (pos 0) (pos 1) zone
+
+-- "Entry (EEA): 0 to 50,000,000."
+unfoldable pub entryFit : ℤ → Bool
+entryFit kwh = inRange (pos 0) (pos 50_000_000) kwh
+
+-- "Exit (XEA): -50,000,000 to 0."
+unfoldable pub exitFit : ℤ → Bool
+exitFit kwh = inRange (negℤ (pos 50_000_000)) (pos 0) kwh
+
+-- "Net title transfer (NCTTN): -50,000,000 to 50,000,000."
+unfoldable pub titleFit : ℤ → Bool
+titleFit kwh = inRange (negℤ (pos 50_000_000)) (pos 50_000_000) kwh
+
+-- "Pooling transfer (IPT): -100,000,000 to 100,000,000."
+unfoldable pub poolingFit : ℤ → Bool
+poolingFit kwh = inRange (negℤ (pos 100_000_000)) (pos 100_000_000) kwh
+
+-- "A position, before or after settlement: -100,000,000 to 100,000,000."
+unfoldable pub positionFit : ℤ → Bool
+positionFit kwh = inRange (negℤ (pos 100_000_000)) (pos 100_000_000) kwh
+
+-- "Upper threshold: 0 to 1,000,000,000."
+unfoldable pub upperFit : ℤ → Bool
+upperFit kwh = inRange (pos 0) (pos 1_000_000_000) kwh
+
+-- "Lower threshold: -1,000,000,000 to 0."
+unfoldable pub lowerFit : ℤ → Bool
+lowerFit kwh = inRange (negℤ (pos 1_000_000_000)) (pos 0) kwh
+
+-- "Price: -10,000,000 to 10,000,000."
+unfoldable pub priceFit : ℤ → Bool
+priceFit micros = inRange (negℤ (pos 10_000_000)) (pos 10_000_000) micros
+
+-- "by month (1 to 12)"
+unfoldable pub monthFit : ℤ → Bool
+monthFit month = inRange (pos 1) (pos 12) month
