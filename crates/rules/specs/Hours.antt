@@ -26,6 +26,14 @@ pub record Closing : Type 0 where
   pub quantity : List ℤ
   pub money : List ℤ
 
+-- the same from a call's parameters
+abbrev pub hourGiven : HourTerms → List ℤ → List ℤ → List ℤ → List ℤ → List ℤ → List ℤ → List ℕ → Hour
+hourGiven terms entry exit title pooling quantity money scratch =
+    record { terms = terms; entry = entry; exit = exit; title = title; pooling = pooling; quantity = quantity; money = money; scratch = scratch }
+
+abbrev pub closingGiven : ClosingTerms → List ℤ → List ℤ → Closing
+closingGiven terms quantity money = record { terms = terms; quantity = quantity; money = money }
+
 -- a user's four amounts together
 unfoldable pub amounts : Hour → ℕ → ℤ
 amounts g user = getD (g .entry) user (pos 0) +ℤ getD (g .exit) user (pos 0) +ℤ getD (g .title) user (pos 0) +ℤ getD (g .pooling) user (pos 0)

@@ -1,0 +1,2 @@
+-- Laws of the positions before settlement.
+pub mod Before

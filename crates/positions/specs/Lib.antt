@@ -1,0 +1,2 @@
+-- Rule 1 on lists that are lent.
+pub mod Before
