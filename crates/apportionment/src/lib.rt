@@ -4,7 +4,7 @@ ghost use mathlib.Core.Bool.{_&&_, _||_};
 ghost use Prim.Native.Nat.{_-_, _*_, _/_, _%_, _<_, _≤_, min, max};
 ghost use lib.Dec.{ltb, eqb};
 ghost use lib.IntN.{pos, natAbs, _+ℤ_};
-ghost use lib.ListN.{length, replicate};
+ghost use lib.ListN.{length};
 ghost use Rattle.integers.specs.Lists.{bit, sum};
 ghost use Rattle.apportionment.specs.Steps.{maxSum, Input, Apportioned, above, IsCut, raisedBy, Bounded, CutAsks, HandAsks, Shared};
 
@@ -232,16 +232,6 @@ fn hand_out(remainders: &[u64], at: u64, ties: u64, spare: u64, out: &mut [i64])
 
 // ---- the rule
 
-fn clear(scratch: &mut [u64])
-    ensures { λ _. ⌜ now (scratch .exit) ≡ replicate (length (now (scratch .entry))) 0 ⌝ }
-{
-    let mut i: usize = 0;
-    while i < scratch.len() {
-        scratch[i] = 0;
-        i += 1;
-    }
-}
-
 // The settled sizes, into `out`. `sizes` is the room to work in: the remainders take the place of the sizes, and at the end it is all zero.
 pub fn apportion(sizes: &mut [u64], total: u64, out: &mut [i64])
     requires { ⌜ length (now out) ≡ length (now sizes) ⌝ }
@@ -253,5 +243,5 @@ pub fn apportion(sizes: &mut [u64], total: u64, out: &mut [i64])
     let spare = total - shares.given;
     let cut = find_cut(sizes, spare, shares.low, shares.top);
     hand_out(sizes, cut.at, cut.ties, spare, out);
-    clear(sizes);
+    integers::clear_unsigned(sizes);
 }

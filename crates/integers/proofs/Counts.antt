@@ -7,7 +7,7 @@ use native.Mathlib.Omega.{arith}
 use native.Mathlib.Nat.{not-suc-le-zero, le-of-suc-le-suc}
 use native.Mathlib.Numerals.{add-one}
 use lib.Dec.{ltb, eqb}
-use lib.ListN.{length, getD, take}
+use lib.ListN.{length, getD, take, drop}
 use borrow.Author.Tests.{ltb-true, ltb-false, eqb-true, eqb-false}
 use Rattle.integers.specs.Lists.{bit, count, sum, tabulate}
 
@@ -132,6 +132,11 @@ module _ {A : Type 0} where
   take-map f xs zero = refl
   take-map f [] (suc i) = refl
   take-map f (x ∷ xs) (suc i) = ap {B = List A} (λ l. f x ∷ l) (take-map f xs i)
+
+  pub drop-map : {B : Type 0} (f : B → A) (xs : List B) (i : ℕ) → drop i (map f xs) ≡ map f (drop i xs)
+  drop-map f xs zero = refl
+  drop-map f [] (suc i) = refl
+  drop-map f (x ∷ xs) (suc i) = drop-map f xs i
 
 pub sum-tabulate : (f g : ℕ → ℕ) (n : ℕ) → sum (tabulate (λ i. f i + g i) n) ≡ sum (tabulate f n) + sum (tabulate g n)
 unfolding tabulate sum

@@ -8,7 +8,7 @@ use native.Mathlib.Nat.{not-suc-le-zero, le-of-suc-le-suc}
 use native.Mathlib.Numerals.{add-one}
 use native.Mathlib.Omega.{arith}
 use lib.IntN.{ℤ, pos, natAbs, _+ℤ_}
-use lib.ListN.{length, set, take, drop, getD, length-set, drop-of-length-le, take-append-drop}
+use lib.ListN.{length, set, take, drop, getD, replicate, length-replicate, getD-replicate, length-set, drop-of-length-le, take-append-drop}
 use lib.Seq.{drop-cons, take-suc, take-all, length-take-le, set-at, getD-at, append-snoc}
 use mir.Syntax.{w64}
 use mir.Val.{SFits, toZ, ofZ}
@@ -49,6 +49,14 @@ module _ {A : Type 0} (t o : List A) where
     -- a loop that may end early, where the rest of t is the rest of o
     pub written-rest : drop i t ≡ drop i o → out ≡ t
     written-rest e = w .is ∙ rw (← e) (take-append-drop i t)
+
+-- the same where every element is v
+module _ {A : Type 0} (v : A) (o : List A) {out : List A} {i : ℕ} (w : Written (replicate (length o) v) o out i) where
+  pub filled-next : i < length o → Written (replicate (length o) v) o (set out i v) (i + 1)
+  filled-next h = written-next (replicate (length o) v) o out i w (length-replicate (length o) v) v v h (sym (getD-replicate (length o) i v v h))
+
+  pub filled-all : length o ≤ i → out ≡ replicate (length o) v
+  filled-all h = written-all (replicate (length o) v) o out i w (length-replicate (length o) v) h
 
 -- ---- a loop that tests every element of xs and stops at the first that fails: the invariant is `every p xs ≡ every p (drop i xs)`
 module _ {A : Type 0} (p : A → Bool) (xs : List A) (i : ℕ) where

@@ -1,12 +1,12 @@
 -- Sums of lists of integers, and lists whose elements are bounded in size. Assumes nothing.
 use mathlib.Core.Path.{_≡_, refl, sym, ap, _∙_}
 use mathlib.Core.List.{List, [], _∷_, _++_, map, zipWith}
-use Prim.Native.Nat.{ℕ, zero, suc, _+_, _*_, _≤_, _<_}
+use Prim.Native.Nat.{ℕ, zero, suc, _+_, _*_, _≤_, _<_, zero-le}
 use native.Mathlib.Omega.{arith}
 use native.Mathlib.Nat.{le-of-suc-le-suc, not-suc-le-zero}
 use native.Mathlib.Numerals.{add-one}
 use lib.IntN.{ℤ, pos, natAbs, negℤ, _+ℤ_, _-ℤ_, +ℤ-idl, +ℤ-idr, +ℤ-assoc, negℤ-+ℤ}
-use lib.ListN.{length, take, getD}
+use lib.ListN.{length, take, drop, getD}
 use lib.Seq.{take-suc}
 use Rattle.integers.specs.Lists.{sumℤ, AtMost}
 use Rattle.integers.proofs.Linear.{lin4, diffs, linear}
@@ -58,6 +58,16 @@ at-most-cons {n} {x} {xs} h s = record { at = go }
     go : (i : ℕ) → natAbs (getD (x ∷ xs) i (pos 0)) ≤ n
     go zero = h
     go (suc i) = s .at i
+
+pub at-most-take : {n : ℕ} (k : ℕ) (xs : List ℤ) → AtMost n xs → AtMost n (take k xs)
+at-most-take zero xs s = record { at = λ i. zero-le }
+at-most-take (suc k) [] s = s
+at-most-take (suc k) (x ∷ xs) s = at-most-cons (s .at 0) (at-most-take k xs (at-most-tail s))
+
+pub at-most-drop : {n : ℕ} (k : ℕ) (xs : List ℤ) → AtMost n xs → AtMost n (drop k xs)
+at-most-drop zero xs s = s
+at-most-drop (suc k) [] s = s
+at-most-drop (suc k) (x ∷ xs) s = at-most-drop k xs (at-most-tail s)
 
 pub sum-bound : {n : ℕ} (xs : List ℤ) → AtMost n xs → natAbs (sumℤ xs) ≤ length xs * n
 unfolding sumℤ

@@ -1,8 +1,9 @@
-// Leaf functions on signed numbers. The laws that all crates above cite are in proofs/.
+// Leaf functions on signed numbers and on lists of numbers. The laws that all crates above cite are in proofs/.
 ghost use mathlib.Core.Path.{_≡_};
 ghost use mathlib.Core.Bool.{_&&_};
 ghost use Prim.Native.Nat.{_*_, _^_, _<_};
 ghost use lib.IntN.{pos, natAbs, negℤ, _*ℤ_};
+ghost use lib.ListN.{length, replicate};
 ghost use lib.Signed.{leZ};
 ghost use Rattle.integers.specs.Ranges.{inRange, isZero, natural};
 
@@ -71,4 +72,25 @@ pub fn natural(x: i64) -> usize
     ensures { λ r. ⌜ r ≡ natural x ⌝ }
 {
     if x < 0 { 0 } else { x as usize }
+}
+
+// Every place zero.
+pub fn clear(list: &mut [i64])
+    ensures { λ _. ⌜ now (list .exit) ≡ replicate (length (now (list .entry))) (pos 0) ⌝ }
+{
+    let mut i: usize = 0;
+    while i < list.len() {
+        list[i] = 0;
+        i += 1;
+    }
+}
+
+pub fn clear_unsigned(list: &mut [u64])
+    ensures { λ _. ⌜ now (list .exit) ≡ replicate (length (now (list .entry))) 0 ⌝ }
+{
+    let mut i: usize = 0;
+    while i < list.len() {
+        list[i] = 0;
+        i += 1;
+    }
 }

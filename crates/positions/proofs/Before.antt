@@ -1,10 +1,9 @@
 -- The positions before settlement of lent lists are those of rule 1. Assumes nothing.
-use mathlib.Core.Path.{_≡_, refl, ap}
+use mathlib.Core.Path.{_≡_}
 use mathlib.Core.List.{List}
 use Prim.Native.Nat.{ℕ, _<_}
 use lib.IntN.{ℤ, pos}
 use lib.ListN.{length, getD}
-use Rattle.integers.specs.Lists.{tabulate}
 use Rattle.integers.proofs.Counts.{length-tabulate, getD-tabulate}
 use Rattle.rules.specs.declared.Day.{Day}
 use Rattle.rules.specs.Days.{users, part, place}

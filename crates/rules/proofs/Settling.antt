@@ -75,7 +75,7 @@ module _ (i : Imbalance) (ps : List ℤ) where
     after-at = getD-zip _-ℤ_ ps (quantities i ps) u (pos 0) (pos 0) (pos 0) h (omega (arith, length-quantities))
 
 -- ---- a causer's size is its position, or its negated position, as a natural number
-size-excess : (n : ℕ) (p : ℤ) → size (excess n) p ≡ natural p
+pub size-excess : (n : ℕ) (p : ℤ) → size (excess n) p ≡ natural p
 unfolding size caused natural
 size-excess n (pos m) = go (ltb 0 m) refl
   where
@@ -84,7 +84,7 @@ size-excess n (pos m) = go (ltb 0 m) refl
     go false e = omega (arith, ltb-false 0 m e)
 size-excess n (negsuc m) = refl
 
-size-shortfall : (n : ℕ) (p : ℤ) → size (shortfall n) p ≡ natural (negℤ p)
+pub size-shortfall : (n : ℕ) (p : ℤ) → size (shortfall n) p ≡ natural (negℤ p)
 unfolding size caused natural
 size-shortfall n (pos zero) = refl
 size-shortfall n (pos (suc m)) = rw (le-ltb (suc m) 0 (omega arith))

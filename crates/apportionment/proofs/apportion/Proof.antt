@@ -34,8 +34,8 @@ hand-out-requires c κs =
     let d = f .before .before .before .before .before .before in
     hand-asked (input d) (d .share-all .ensures) _ _ (f .find-cut .ensures .0) (f .find-cut .ensures .1)
 
-clear-requires : tie.Need-clear-requires
-clear-requires c κs = search needs
+clear-unsigned-requires : tie.Need-clear-unsigned-requires
+clear-unsigned-requires c κs = search needs
 
 same-length : tie.Need-same-length
 same-length c = search needs
@@ -50,7 +50,7 @@ returns c =
     let d = f .before .before .before .before .before .before in
     record {
       shares = h .hand-out .ensures ∙ settled-by (input d) (d .share-all .ensures) _ _ (f .find-cut .ensures .0);
-      cleared = c .before .before .clear .ensures ∙ ap (λ (n : ℕ). replicate n 0) (rests-length (input d) (d .share-all .ensures));
+      cleared = c .before .before .clear-unsigned .ensures ∙ ap (λ (n : ℕ). replicate n 0) (rests-length (input d) (d .share-all .ensures));
     }
 
 pub apportion-spec : {M : Type 1} → statement M
@@ -62,7 +62,7 @@ apportion-spec =
     sub-spare
     find-cut-requires
     hand-out-requires
-    clear-requires
+    clear-unsigned-requires
     same-length
     same-length-2
     returns)

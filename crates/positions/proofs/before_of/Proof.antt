@@ -1,5 +1,4 @@
 -- Each partial sum fits. Assumes nothing.
-use mathlib.Core.Path.{_≡_}
 use native.Mathlib.Omega.{arith}
 use lib.IntN.{_+ℤ_}
 use mir.Syntax.{w64}

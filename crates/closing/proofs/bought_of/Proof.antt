@@ -1,0 +1,24 @@
+-- By the sign. Assumes nothing.
+use mathlib.Core.Path.{ap, _∙_}
+use Rattle.integers.proofs.Machine.{read, back, read-le}
+use lib.IntN.{negℤ}
+use Rattle.closing.specs.Steps.{boughtOf}
+use native.Mathlib.Omega.{arith}
+use Rattle.closing.proofs.bought_of.Statement.{statement}
+use Rattle.closing.proofs.bought_of.Tie as tie
+
+negated-requires : tie.Need-negated-requires
+negated-requires c κs = omega (arith, read-le (c .before .args .quantity) 100_000_000 (c .before .pre))
+
+returns : tie.Need-returns
+unfolding boughtOf
+returns c =
+    let f = read (c .before .before .fits .quantity) in
+    rw (rw f at (c .before .if1 .taken)) (back _ (c .negated .ok) ∙ c .negated .ensures ∙ ap negℤ f)
+
+returns-2 : tie.Need-returns-2
+unfolding boughtOf
+returns-2 c = rw (rw (read (c .before .fits .quantity)) at (c .if1 .left))
+
+pub bought-of-spec : {M : Type 1} → statement M
+bought-of-spec = tie.close (tie.spec negated-requires returns returns-2)

@@ -1,0 +1,2 @@
+-- What the closing of a zone asks and leaves.
+pub mod Steps

@@ -1,0 +1,2 @@
+-- What the steps of the settlement ask and leave.
+pub mod Steps
