@@ -3,7 +3,7 @@
 use mathlib.Core.Path.{_≡_, refl, sym, _∙_}
 use mathlib.Core.Bool.{Bool, true, false}
 use mathlib.Core.List.{List, [], _∷_, _++_, append-nil}
-use Prim.Native.Nat.{ℕ, zero, suc, _+_, _*_, _^_, _≤_, _<_}
+use Prim.Native.Nat.{ℕ, zero, suc, _+_, _*_, _^_, _≤_, _<_, zero-le}
 use native.Mathlib.Nat.{not-suc-le-zero, le-of-suc-le-suc}
 use native.Mathlib.Numerals.{add-one}
 use native.Mathlib.Omega.{arith}
@@ -16,7 +16,7 @@ use Rattle.integers.specs.Lists.{sumℤ, every, AtMost}
 use Rattle.integers.proofs.Machine.{read, read-le, fits-add}
 use Rattle.integers.proofs.Sizes.{size-eq}
 use Rattle.integers.proofs.Tests.{and-true, both-true}
-use Rattle.integers.proofs.Sums.{sumℤ-step, sum-take-bound}
+use Rattle.integers.proofs.Sums.{sumℤ-step, sum-take-bound, at-most-cons}
 
 -- ---- a loop that writes the list t over the list o, of any elements, fresh or in place: it has come to i
 pub record Written {A : Type 0} (t o out : List A) (i : ℕ) : Type 0 where
@@ -83,6 +83,12 @@ pub every-of : {A : Type 0} (p : A → Bool) (xs : List A) (z : A) → ((i : ℕ
 unfolding every
 every-of p [] z h = refl
 every-of p (x ∷ xs) z h = both-true (h 0 (omega arith)) (every-of p xs z (λ i l. h (suc i) (omega arith)))
+
+-- a test that bounds each element
+pub every-at-most : (p : ℤ → Bool) (n : ℕ) → ((x : ℤ) → p x ≡ true → natAbs x ≤ n) → (xs : List ℤ) → every p xs ≡ true → AtMost n xs
+unfolding every
+every-at-most p n h [] e = record { at = λ i. zero-le }
+every-at-most p n h (x ∷ xs) e = let k = and-true (p x) (every p xs) e in at-most-cons (h x (k .0)) (every-at-most p n h xs (k .1))
 
 -- ---- a loop that adds the elements of xs to a signed local, whose bits are s: the invariant is `toZ w64 s ≡ sumℤ (take i xs)`
 module _ (xs : List ℤ) (i s : ℕ) (v : ℤ) (inv : toZ w64 s ≡ sumℤ (take i xs)) (is : v ≡ getD xs i (pos 0)) where

@@ -2,7 +2,7 @@
 use mathlib.Core.Path.{_≡_, refl, sym}
 use mathlib.Core.Bool.{true, false, not, _&&_}
 use mathlib.Core.List.{List}
-use Prim.Native.Nat.{_≤_}
+use Prim.Native.Nat.{ℕ, _≤_}
 use borrow.Author.Tests.{leb-true, eqb-true, not-true}
 use lib.Dec.{lit<, leb}
 use lib.IntN.{ℤ, pos, negsuc, negℤ}
@@ -18,7 +18,7 @@ use Rattle.rules.specs.declared.HourTerms.{HourTerms}
 use Rattle.rules.specs.Limits.{usersFit, zoneFit, upperFit, lowerFit}
 use Rattle.rules.specs.Days.{users, isClosed}
 use Rattle.rules.specs.Hours.{Hour, Closing}
-use Rattle.rules.specs.Causes.{hourCause, closingCause, dayFit, tableLong, hourLong, closingLong, hourNext, allDone, tableFit, termsFit, pricesFit, amountsFit, poolingAdds, beforeFit}
+use Rattle.rules.specs.Causes.{hourCause, closingCause, dayFit, tableLong, listLong, scratchLong, hourLong, closingLong, hourNext, allDone, tableFit, termsFit, pricesFit, amountsFit, poolingAdds, beforeFit}
 use Rattle.rules.specs.Answers.{hourAnswer, hourNumber, closingAnswer, closingNumber}
 use Rattle.rules.proofs.Refusing.{unless-none, then-none, by-number}
 use Rattle.rules.proofs.Zones.{Zone, zone-of}
@@ -136,7 +136,46 @@ closing-sound d t g k =
     let f = closing-fit d t g k in
     sound-of d t (g .terms .zone) (f .day) (and-true (tableLong t) _ (f .lengths) .0) (f .zone) (f .open′)
 
--- no threshold is on the wrong side of zero
+-- ---- the lists and the scratch have a place for each user
+pub record HourLengths (n : ℕ) (g : Hour) : Type 0 where
+  pub entries : length (g .entry) ≡ n
+  pub exits : length (g .exit) ≡ n
+  pub titles : length (g .title) ≡ n
+  pub poolings : length (g .pooling) ≡ n
+  pub quantities : length (g .quantity) ≡ n
+  pub moneys : length (g .money) ≡ n
+  pub scratches : length (g .scratch) ≡ n
+
+pub hour-lengths : (d : Day) (t : List ℤ) (g : Hour) → hourLong d t g ≡ true → HourLengths (users d) g
+unfolding hourLong listLong scratchLong
+hour-lengths d t g h =
+    let e = and-true (listLong d (g .entry)) _ (and-true (tableLong t) _ h .1) in
+    let x = and-true (listLong d (g .exit)) _ (e .1) in
+    let n = and-true (listLong d (g .title)) _ (x .1) in
+    let i = and-true (listLong d (g .pooling)) _ (n .1) in
+    let q = and-true (listLong d (g .quantity)) _ (i .1) in
+    let m = and-true (listLong d (g .money)) _ (q .1) in
+    record {
+      entries = eqb-true _ _ (e .0);
+      exits = eqb-true _ _ (x .0);
+      titles = eqb-true _ _ (n .0);
+      poolings = eqb-true _ _ (i .0);
+      quantities = eqb-true _ _ (q .0);
+      moneys = eqb-true _ _ (m .0);
+      scratches = eqb-true _ _ (m .1);
+    }
+
+pub record ClosingLengths (n : ℕ) (g : Closing) : Type 0 where
+  pub quantities : length (g .quantity) ≡ n
+  pub moneys : length (g .money) ≡ n
+
+pub closing-lengths : (d : Day) (t : List ℤ) (g : Closing) → closingLong d t g ≡ true → ClosingLengths (users d) g
+unfolding closingLong listLong
+closing-lengths d t g h =
+    let l = and-true (listLong d (g .quantity)) (listLong d (g .money)) (and-true (tableLong t) _ h .1) in
+    record { quantities = eqb-true _ _ (l .0); moneys = eqb-true _ _ (l .1) }
+
+-- ---- no threshold is on the wrong side of zero
 pub thresholds-sound : (k : HourTerms) → termsFit k ≡ true → (leZ (pos 0) (k .upper) ≡ true) × (leZ (k .lower) (pos 0) ≡ true)
 unfolding termsFit upperFit lowerFit
 thresholds-sound k e =

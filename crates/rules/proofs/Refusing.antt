@@ -18,6 +18,11 @@ unfolding _then_
 then-none {a = zero} h = (refl, h)
 then-none {a = suc a} h = absurd (omega arith)
 
+-- a test that found a cause
+pub some-cause : {c k : ℕ} → c ≡ k → (c ≡ 0 → ⊥) → 0 < k
+some-cause {k = zero} e n = absurd (n e)
+some-cause {k = suc k} e n = omega arith
+
 pub by-none : {A : Type 0} (k : ℕ) (a b : A) → k ≡ 0 → byCause k a b ≡ a
 unfolding byCause
 by-none zero a b e = refl

@@ -15,7 +15,7 @@ use Rattle.integers.proofs.Tests.{and-true}
 use Rattle.rules.specs.declared.Day.{Day}
 use Rattle.rules.specs.declared.ZoneDay.{ZoneDay}
 use Rattle.rules.specs.Limits.{zoneFit}
-use Rattle.rules.specs.Days.{zoneDay, isClosed, withZoneDay, dayAfterHour, dayAfterClosing, firstPlace, part, withPart, onto}
+use Rattle.rules.specs.Days.{zoneDay, isClosed, withZoneDay, hourMore, closedNow, dayAfterHour, dayAfterClosing, firstPlace, part, withPart, onto}
 
 pub data Zone : ℤ → Type 0 where
   H : Zone (pos 0)
@@ -74,19 +74,19 @@ users-kept z f d = go (isZero z)
 
 -- a closed zone stays closed, and a closing closes its zone
 pub closed-hour : (y z : ℤ) (d : Day) → Zone y → Zone z → isClosed y (dayAfterHour z d) ≡ isClosed y d
-unfolding dayAfterHour withZoneDay isClosed zoneDay
+unfolding dayAfterHour hourMore withZoneDay isClosed zoneDay
 closed-hour y z d H H = refl
 closed-hour y z d H L = refl
 closed-hour y z d L H = refl
 closed-hour y z d L L = refl
 
 pub closed-closing : (z : ℤ) (d : Day) → Zone z → isClosed z (dayAfterClosing z d) ≡ true
-unfolding dayAfterClosing withZoneDay isClosed zoneDay
+unfolding dayAfterClosing closedNow withZoneDay isClosed zoneDay
 closed-closing z d H = refl
 closed-closing z d L = refl
 
 pub closed-still : (y z : ℤ) (d : Day) → Zone y → Zone z → isClosed y d ≡ true → isClosed y (dayAfterClosing z d) ≡ true
-unfolding dayAfterClosing withZoneDay isClosed zoneDay
+unfolding dayAfterClosing closedNow withZoneDay isClosed zoneDay
 closed-still y z d H H e = refl
 closed-still y z d H L e = e
 closed-still y z d L H e = e

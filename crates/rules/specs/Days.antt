@@ -40,12 +40,18 @@ unfoldable pub newDay : ℤ → Day
 newDay n = record { users = n; h = record { hours = pos 0; closed = false }; l = record { hours = pos 0; closed = false } }
 
 -- an hour: "The record has one hour more for that zone and is otherwise the same."
+unfoldable pub hourMore : ZoneDay → ZoneDay
+hourMore z = record { hours = z .hours +ℤ pos 1; closed = z .closed }
+
 unfoldable pub dayAfterHour : ℤ → Day → Day
-dayAfterHour zone d = withZoneDay zone (λ z. record { hours = z .hours +ℤ pos 1; closed = z .closed }) d
+dayAfterHour zone d = withZoneDay zone hourMore d
 
 -- a closing: "the zone is marked closed"
+unfoldable pub closedNow : ZoneDay → ZoneDay
+closedNow z = record { hours = z .hours; closed = true }
+
 unfoldable pub dayAfterClosing : ℤ → Day → Day
-dayAfterClosing zone d = withZoneDay zone (λ z. record { hours = z .hours; closed = true }) d
+dayAfterClosing zone d = withZoneDay zone closedNow d
 
 -- ---- the table: "256 places: 128 for the H zone, then 128 for the L zone"
 

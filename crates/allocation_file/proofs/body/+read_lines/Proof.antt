@@ -1,0 +1,204 @@
+-- By a measure that falls with each line: what is left of the file. A row is stored once the lines after it are read. Assumes nothing.
+use mathlib.Core.Path.{_≡_, sym, _∙_}
+use Prim.Native.Nat.{ℕ, _+_, _-_, _≤_, _<_}
+use native.Mathlib.Omega.{arith}
+use lib.ListN.{length, drop}
+use denote.Ref.{now}
+use borrow.Author.Tests.{not-true, not-false}
+use borrow.Author.Needs.{needs}
+use borrow.Fn.Kinds.{In}
+use borrow.Fn.PlainCycle.{Measures, is, falls, and}
+use Rattle.allocation_file.specs.Lines.{lines}
+use Rattle.allocation_file.specs.File.{withRow, inTurn}
+use Rattle.allocation_file.proofs.Lines.{line-within, line-length}
+use Rattle.allocation_file.proofs.Turns.{turns-end, turn-faulty, turn-other, turn-row, follows-means}
+use Rattle.allocation_file.proofs.Stores.{after-refused, after-end, after-rest, after-stored}
+use Rattle.allocation_file.proofs.body.read_lines.Reads as read-lines
+use Rattle.allocation_file.proofs.body.read_lines.Kinds as read-lines-kinds
+use Rattle.allocation_file.proofs.body.+read_lines.Lts-read_lines as lts
+use Rattle.allocation_file.proofs.body.answer_read.Reads as answer-read-reads
+use Rattle.allocation_file.proofs.body.follows_on.Reads as follows-on-reads
+use Rattle.allocation_file.proofs.body.is_refused.Reads as is-refused-reads
+use Rattle.allocation_file.proofs.body.store.Reads as store-reads
+use Rattle.allocation_file.proofs.row.read_row.Reads as read-row-reads
+use Rattle.allocation_file.proofs.split.line_at.Reads as line-at-reads
+use Rattle.allocation_file.proofs.body.+read_lines.{statement}
+use Rattle.allocation_file.proofs.body.+read_lines.Tie.{close}
+
+abbrev μ : Measures 5 read-lines-kinds.ps ℕ
+μ κs a = length (now (a .0)) - a .1 .0
+
+-- what the function may assume, and what a call of itself must show, where the measure is t
+abbrev pre : ℕ → In 5 read-lines-kinds.ps
+pre t = and 5 read-lines-kinds.ps (is 5 read-lines-kinds.ps μ t) read-lines.Pre
+
+abbrev below-pre : ℕ → In 5 read-lines-kinds.ps
+below-pre t = and 5 read-lines-kinds.ps (falls 5 read-lines-kinds.ps _<_ μ t) read-lines.Pre
+
+-- what the calls ask and say
+abbrev claims : ℕ → lts.Claims
+claims t = (
+  answer-read-reads.Asked,
+  answer-read-reads.Learnt,
+  line-at-reads.Asked,
+  line-at-reads.Learnt,
+  read-row-reads.Asked,
+  read-row-reads.Learnt,
+  follows-on-reads.Asked,
+  follows-on-reads.Learnt,
+  below-pre t,
+  read-lines.Post,
+  is-refused-reads.Asked,
+  is-refused-reads.Learnt,
+  store-reads.Asked,
+  store-reads.Learnt,
+)
+
+-- ---- what the needs below share
+
+-- the line is within the file
+next-within : (t : ℕ) (c : lts.After-line-at (claims t) (pre t) read-lines.Post) → let a = c .before .before .before .args in a .at + length (now (c .line-at .result)) ≤ length (now (a .file))
+next-within t c =
+    let a = c .before .before .before .args in
+    let h : a .at ≤ length (now (a .file)) = omega arith in
+    rw (c .line-at .ensures, line-length (now (a .file)) (a .at) h) (line-within (now (a .file)) (a .at) h)
+
+-- the row may stand at its place
+below : (t : ℕ) (c : lts.Else2 (claims t) (pre t) read-lines.Post) → c .before .before .before .before .before .before .before .before .before .args .place < 128
+below t c = follows-means _ _ _ (c .before .before .before .row .given .0 .0) (sym (c .before .follows-on .ensures) ∙ not-false _ (c .if2 .left)) .below
+
+-- what the row makes of the lines from it on
+rest : (t : ℕ) (c : lts.Else2 (claims t) (pre t) read-lines.Post) →
+    let a = c .before .before .before .before .before .before .before .before .before .args in
+    let l = now (c .before .before .before .before .before .before .line-at .result) in
+    inTurn (a .hour) (a .zone) (lines (drop (a .at) (now (a .file)))) (a .place)
+    ≡ withRow (c .before .before .before .row .given .0 .0) (inTurn (a .hour) (a .zone) (lines (drop (a .at + length l + 2) (now (a .file)))) (a .place + 1))
+rest t c =
+    let a = c .before .before .before .before .before .before .before .before .before .args in
+    let l = c .before .before .before .before .before .before .line-at in
+    turn-row (now (a .file)) (a .at) (c .before .before .before .before .before .before .before .if1 .left) (now (l .result)) (l .ensures) (a .hour) (a .zone) (a .place) (c .before .before .before .row .given .0 .0) (sym (c .before .before .before .before .before .read-row .ensures) ∙ c .before .before .before .row .given .1) (sym (c .before .follows-on .ensures) ∙ not-false _ (c .if2 .left))
+
+-- ---- the needs
+
+answer-read-requires : (t : ℕ) → lts.Need-answer-read-requires (claims t) (pre t) read-lines.Post
+answer-read-requires t c κs = search needs
+
+returns : (t : ℕ) → lts.Need-returns (claims t) (pre t) read-lines.Post
+returns t c =
+    let a = c .before .before .before .args in
+    rw (c .answer-read .ensures)
+    (after-end
+    (turns-end (now (a .file)) (a .at) (c .before .if1 .taken) (a .hour) (a .zone) (a .place)))
+
+line-at-requires : (t : ℕ) → lts.Need-line-at-requires (claims t) (pre t) read-lines.Post
+line-at-requires t c κs = search needs
+
+add-next : (t : ℕ) → lts.Need-add-next (claims t) (pre t) read-lines.Post
+add-next t c = omega (arith, next-within t c)
+
+add-next-2 : (t : ℕ) → lts.Need-add-next-2 (claims t) (pre t) read-lines.Post
+add-next-2 t c = omega (arith, next-within t c)
+
+read-row-requires : (t : ℕ) → lts.Need-read-row-requires (claims t) (pre t) read-lines.Post
+read-row-requires t c κs = search needs
+
+enum-known-cause : (t : ℕ) → lts.Need-enum-known-cause (claims t) (pre t) read-lines.Post
+enum-known-cause t c = search needs
+
+returns-2 : (t : ℕ) → lts.Need-returns-2 (claims t) (pre t) read-lines.Post
+returns-2 t c =
+    let a = c .before .before .before .before .before .before .before .args in
+    let l = c .before .before .before .before .line-at in
+    after-refused
+    (turn-faulty (now (a .file)) (a .at) (c .before .before .before .before .before .if1 .left) (now (l .result)) (l .ensures) (a .hour) (a .zone) (a .place) _ (sym (c .before .before .before .read-row .ensures) ∙ c .before .cause .given .1))
+
+enum-known-row : (t : ℕ) → lts.Need-enum-known-row (claims t) (pre t) read-lines.Post
+enum-known-row t c = search needs
+
+follows-on-requires : (t : ℕ) → lts.Need-follows-on-requires (claims t) (pre t) read-lines.Post
+follows-on-requires t c κs = search needs
+
+returns-3 : (t : ℕ) → lts.Need-returns-3 (claims t) (pre t) read-lines.Post
+returns-3 t c =
+    let a = c .before .before .before .before .before .before .before .before .before .args in
+    let l = c .before .before .before .before .before .before .line-at in
+    after-refused
+    (turn-other (now (a .file)) (a .at) (c .before .before .before .before .before .before .before .if1 .left) (now (l .result)) (l .ensures) (a .hour) (a .zone) (a .place) (c .before .before .before .row .given .0 .0) (sym (c .before .before .before .before .before .read-row .ensures) ∙ c .before .before .before .row .given .1) (sym (c .before .follows-on .ensures) ∙ not-true _ (c .if2 .taken)))
+
+add-read-lines : (t : ℕ) → lts.Need-add-read-lines (claims t) (pre t) read-lines.Post
+add-read-lines t c = omega (arith, below t c)
+
+read-lines-requires : (t : ℕ) → lts.Need-read-lines-requires (claims t) (pre t) read-lines.Post
+read-lines-requires t c κs = (omega (arith, next-within t (c .before .before .before .before .before .before .before .before .before .before)), (omega (arith, below t (c .before .before .before .before)), c .before .before .before .before .before .before .before .before .before .before .before .before .before .pre .1 .1))
+
+is-refused-requires : (t : ℕ) → lts.Need-is-refused-requires (claims t) (pre t) read-lines.Post
+is-refused-requires t c κs = search needs
+
+same-length : (t : ℕ) → lts.Need-same-length (claims t) (pre t) read-lines.Post
+same-length t c = search needs
+
+same-length-2 : (t : ℕ) → lts.Need-same-length-2 (claims t) (pre t) read-lines.Post
+same-length-2 t c = search needs
+
+same-length-3 : (t : ℕ) → lts.Need-same-length-3 (claims t) (pre t) read-lines.Post
+same-length-3 t c = search needs
+
+same-length-4 : (t : ℕ) → lts.Need-same-length-4 (claims t) (pre t) read-lines.Post
+same-length-4 t c = search needs
+
+returns-4 : (t : ℕ) → lts.Need-returns-4 (claims t) (pre t) read-lines.Post
+returns-4 t c = rw (rest t (c .before .before .before .before .before .before .before .before .before .before .before)) (after-rest _ (c .before .before .before .before .before .before .before .before .before .before .before .before .before .before .row .given .0 .0) _ _ (sym (c .before .is-refused .ensures) ∙ c .if3 .taken) (c .before .before .before .before .before .before .read-lines .ensures))
+
+store-requires : (t : ℕ) → lts.Need-store-requires (claims t) (pre t) read-lines.Post
+store-requires t c κs =
+    let b = below t (c .before .before .before .before .before .before .before .before .before .before .before .before .before .before .before) in
+    let p = c .before .before .before .before .before .before .before .before .before .before .before .before .before .before .before .before .before .before .before .before .before .before .before .before .pre .1 .1 in
+    let q = c .before .before .before .before .before .before .before .before .before .before .read-lines .kept .1 .1 .1 .1 .1 in
+    record { entries = omega (arith, q .0); exits = omega (arith, q .1 .0); titles = omega (arith, q .1 .1 .0); poolings = omega (arith, q .1 .1 .1 .0) }
+
+same-length-5 : (t : ℕ) → lts.Need-same-length-5 (claims t) (pre t) read-lines.Post
+same-length-5 t c = search needs
+
+same-length-6 : (t : ℕ) → lts.Need-same-length-6 (claims t) (pre t) read-lines.Post
+same-length-6 t c = search needs
+
+same-length-7 : (t : ℕ) → lts.Need-same-length-7 (claims t) (pre t) read-lines.Post
+same-length-7 t c = search needs
+
+same-length-8 : (t : ℕ) → lts.Need-same-length-8 (claims t) (pre t) read-lines.Post
+same-length-8 t c = search needs
+
+returns-5 : (t : ℕ) → lts.Need-returns-5 (claims t) (pre t) read-lines.Post
+returns-5 t c =
+    rw (rest t (c .before .before .before .before .before .before .before .before .before .before .before .before .before .before .before .before .before .before .before .before))
+    (after-stored _ (c .before .before .before .before .before .before .before .before .before .before .before .before .before .before .before .before .before .before .before .before .before .before .before .row .given .0 .0) _ _ (c .before .before .before .before .before .before .before .before .before .before .before .before .before .before .before .before .before .before .before .before .before .before .before .before .before .before .before .before .before .pre .1 .1) (below t (c .before .before .before .before .before .before .before .before .before .before .before .before .before .before .before .before .before .before .before .before)) (sym (c .before .before .before .before .before .before .before .before .before .before .is-refused .ensures) ∙ c .before .before .before .before .before .before .before .before .before .if3 .left) (c .before .before .before .before .before .before .before .before .before .before .before .before .before .before .before .read-lines .ensures) (c .before .before .before .before .store .ensures))
+
+pub +read-lines-spec : {M : Type 1} → statement M
++read-lines-spec = close μ λ t. lts.spec (claims t)
+    (pre t)
+    read-lines.Post
+    (answer-read-requires t)
+    (returns t)
+    (line-at-requires t)
+    (add-next t)
+    (add-next-2 t)
+    (read-row-requires t)
+    (enum-known-cause t)
+    (returns-2 t)
+    (enum-known-row t)
+    (follows-on-requires t)
+    (returns-3 t)
+    (add-read-lines t)
+    (read-lines-requires t)
+    (is-refused-requires t)
+    (same-length t)
+    (same-length-2 t)
+    (same-length-3 t)
+    (same-length-4 t)
+    (returns-4 t)
+    (store-requires t)
+    (same-length-5 t)
+    (same-length-6 t)
+    (same-length-7 t)
+    (same-length-8 t)
+    (returns-5 t)

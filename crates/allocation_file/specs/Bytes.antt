@@ -1,0 +1,39 @@
+-- The bytes that the rules name. Assumes nothing.
+use Prim.Native.Nat.{ℕ}
+use Prim.Native.Char.{code}
+use Prim.Native.String.{String, [] as end, _∷_ as _then_}
+use mathlib.Core.List.{List, [], _∷_}
+
+-- a text as its bytes, a byte for each character (the texts here are ASCII)
+abbrev pub bytes : String → List ℕ
+bytes end = []
+bytes (c then cs) = code c ∷ bytes cs
+
+-- the bytes that part a line's fields, end a line, or are not allowed
+abbrev pub comma : ℕ
+comma = code ","
+
+abbrev pub quoteMark : ℕ
+quoteMark = code "\""
+
+abbrev pub carriageReturn : ℕ
+carriageReturn = code "\r"
+
+abbrev pub lineFeed : ℕ
+lineFeed = code "\n"
+
+-- the bytes of numbers, and the zones' letters
+abbrev pub minusSign : ℕ
+minusSign = code "-"
+
+abbrev pub digit0 : ℕ
+digit0 = code "0"
+
+abbrev pub digit9 : ℕ
+digit9 = code "9"
+
+abbrev pub letterH : ℕ
+letterH = code "H"
+
+abbrev pub letterL : ℕ
+letterL = code "L"

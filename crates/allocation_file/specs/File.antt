@@ -1,0 +1,104 @@
+-- The file, and the call that reads it. Assumes nothing.
+use Prim.Native.Nat.{ℕ, _+_}
+use mathlib.Core.Path.{_≡_}
+use mathlib.Core.Bool.{Bool, true, false, _&&_, cond}
+use mathlib.Core.List.{List, [], _∷_, _++_, map}
+use lib.Dec.{eqb, ltb}
+use lib.IntN.{ℤ, pos}
+use lib.ListN.{length, drop}
+use Rattle.allocation_file.specs.Bytes.{bytes}
+use Rattle.allocation_file.specs.Lines.{lines}
+use Rattle.allocation_file.specs.Rows.{rowOf}
+use Rattle.allocation_file.specs.declared.row.Row.{Row}
+use Rattle.allocation_file.specs.declared.row.Line.{Line}
+use Rattle.allocation_file.specs.declared.row.Line.the-variants.{Good, Faulty}
+use Rattle.allocation_file.specs.declared.FileAnswer.{FileAnswer}
+use Rattle.allocation_file.specs.declared.FileAnswer.the-variants.{Refused, Read}
+
+-- ---- the header
+
+-- "The file opens with the 25 bytes .."
+abbrev pub header : List ℕ
+header = bytes "h,z,g,EEA,XEA,NCTTN,IPT\r\n"
+
+-- s begins with the bytes of the second list
+abbrev pub begins : List ℕ → List ℕ → Bool
+begins s [] = true
+begins [] (x ∷ xs) = false
+begins (y ∷ ys) (x ∷ xs) = eqb y x && begins ys xs
+
+-- the lines after the header
+abbrev pub linesOf : List ℕ → List (List ℕ)
+linesOf s = lines (drop (length header) s)
+
+-- ---- what a file says
+
+-- the cause of its refusal; or the hour, the zone's number and a row for each line
+pub data File : Type 0 where
+  refused : ℕ → File
+  read : ℕ → ℕ → List Row → File
+
+-- one row more at the front
+abbrev pub withRow : Row → File → File
+withRow r (refused c) = refused c
+withRow r (read h z rs) = read h z (r ∷ rs)
+
+-- "All lines have the first line's h and z; g runs 0, 1, 2 and on, to 127 at most": a row may stand at place k, after a first line with h and z
+abbrev pub follows : ℕ → ℕ → ℕ → Row → Bool
+follows h z k r = (eqb (r .hour) h && eqb (r .zone) z) && (eqb (r .place) k && ltb k 128)
+
+-- one line in its turn: 14 or 15, then 16, then the lines after it
+abbrev pub turn : Line → ℕ → ℕ → ℕ → (ℕ → File) → File
+turn (Faulty c) h z k on = refused c
+turn (Good r) h z k on = cond (follows h z k r) (withRow r (on (k + 1))) (refused 16)
+
+-- "the lines are taken in turn", from place k on
+abbrev pub inTurn : ℕ → ℕ → List (List ℕ) → ℕ → File
+inTurn h z [] k = read h z []
+inTurn h z (l ∷ ls) k = turn (rowOf l) h z k (inTurn h z ls)
+
+-- the first line gives h and z, and is then taken in its turn
+abbrev pub underFirst : Line → List (List ℕ) → File
+underFirst (Faulty c) ls = refused c
+underFirst (Good r) ls = inTurn (r .hour) (r .zone) ls 0
+
+-- all lines: "At least one further line follows"
+abbrev pub bodyOf : List (List ℕ) → File
+bodyOf [] = refused 17
+bodyOf (l ∷ ls) = underFirst (rowOf l) (l ∷ ls)
+
+-- the whole file: 13, then what its lines say
+unfoldable pub fileOf : List ℕ → File
+fileOf s = cond (begins s header) (bodyOf (linesOf s)) (refused 13)
+
+-- ---- the call
+
+-- "lent four lists of exactly 128 places"
+abbrev pub all128 : ℕ → ℕ → ℕ → ℕ → Bool
+all128 a b c d = (eqb a 128 && eqb b 128) && (eqb c 128 && eqb d 128)
+
+-- the outcome of the call: 12 goes before all else
+abbrev pub outcome : List ℕ → List ℤ → List ℤ → List ℤ → List ℤ → File
+outcome s a b c d = cond (all128 (length a) (length b) (length c) (length d)) (fileOf s) (refused 12)
+
+-- "It answers h, z as the zone's number, and the number of lines", all as signed numbers
+abbrev pub answered : ℕ → ℕ → ℕ → FileAnswer
+answered h z n = Read (record { hour = pos h; zone = pos z; lines = pos n })
+
+-- document 01's number for a refusal, and its three values for a file that is read
+abbrev pub answerOf : File → FileAnswer
+answerOf (refused c) = Refused c
+answerOf (read h z rs) = answered h z (length rs)
+
+-- a list lent, after the call: it "fills the first as many as there are lines and touches no others"; a refusal leaves it as it was
+abbrev pub listOf : (Row → ℤ) → File → List ℤ → List ℤ
+listOf f (refused c) xs = xs
+listOf f (read h z rs) xs = map f rs ++ drop (length rs) xs
+
+-- the call's contract: the answer r to the file s, and the lists a b c d after it
+pub record ReadHour (s : List ℕ) (a b c d : List ℤ) (r : FileAnswer) (a′ b′ c′ d′ : List ℤ) : Type 0 where
+  pub answer : r ≡ answerOf (outcome s a b c d)
+  pub entries : a′ ≡ listOf (λ w. w .entry) (outcome s a b c d) a
+  pub exits : b′ ≡ listOf (λ w. w .exit) (outcome s a b c d) b
+  pub titles : c′ ≡ listOf (λ w. w .title) (outcome s a b c d) c
+  pub poolings : d′ ≡ listOf (λ w. w .pooling) (outcome s a b c d) d

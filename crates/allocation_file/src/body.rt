@@ -1,0 +1,149 @@
+// The lines after the header, in turn.
+ghost use mathlib.Core.Path.{_≡_};
+ghost use Prim.Native.Nat.{_≤_};
+ghost use lib.ListN.{drop};
+ghost use Rattle.allocation_file.specs.Lines.{lines};
+ghost use Rattle.allocation_file.specs.File.{follows, inTurn, bodyOf, answered};
+ghost use Rattle.allocation_file.specs.Steps.{Within, Lent, Stored, After, isRefused};
+use super::FileAnswer;
+use super::FileRead;
+use super::row::Line;
+use super::row::Row;
+use super::row::read_row;
+use super::split::line_at;
+
+// Whether a row may stand at `place` in a file of `hour` and `zone`.
+fn follows_on(row: Row, place: usize, hour: u32, zone: u32) -> bool
+    ensures { λ r. ⌜ r ≡ follows hour zone place row ⌝ }
+{
+    if row.hour != hour {
+        return false;
+    }
+    if row.zone != zone {
+        return false;
+    }
+    if row.place as usize != place {
+        return false;
+    }
+    place < 128
+}
+
+// The answer to a file that is read, in the caller's signed numbers.
+fn answer_read(hour: u32, zone: u32, lines: usize) -> FileAnswer
+    requires { ⌜ lines ≤ 128 ⌝ }
+    ensures { λ r. ⌜ r ≡ answered hour zone lines ⌝ }
+{
+    FileAnswer::Read(FileRead {
+        hour: integers::signed(hour as u64),
+        zone: integers::signed(zone as u64),
+        lines: integers::signed(lines as u64),
+    })
+}
+
+fn is_refused(answer: FileAnswer) -> bool
+    ensures { λ r. ⌜ r ≡ isRefused answer ⌝ }
+{
+    match answer {
+        FileAnswer::Refused(_) => true,
+        FileAnswer::Read(_) => false,
+    }
+}
+
+// Puts a row's four amounts at `place`.
+fn store(
+    row: Row,
+    place: usize,
+    entries: &mut [i64],
+    exits: &mut [i64],
+    titles: &mut [i64],
+    poolings: &mut [i64],
+)
+    requires { ⌜ Within place (now entries) (now exits) (now titles) (now poolings) ⌝ }
+    ensures { λ u. ⌜ Stored row place (now (entries .entry)) (now (exits .entry)) (now (titles .entry)) (now (poolings .entry)) (now (entries .exit)) (now (exits .exit)) (now (titles .exit)) (now (poolings .exit)) ⌝ }
+{
+    let amount = row.entry;
+    entries[place] = amount;
+    let amount = row.exit;
+    exits[place] = amount;
+    let amount = row.title;
+    titles[place] = amount;
+    let amount = row.pooling;
+    poolings[place] = amount;
+}
+
+// Reads the lines from `at` on, the first of which is at `place`, in a file of `hour` and `zone`. A line is checked before the lines after it are read, and
+// stored once they all are: so a refusal touches no list, and no line is read twice. The calls are at most 129 deep: no row follows at place 128.
+fn read_lines(
+    file: &[u8],
+    at: usize,
+    place: usize,
+    hour: u32,
+    zone: u32,
+    entries: &mut [i64],
+    exits: &mut [i64],
+    titles: &mut [i64],
+    poolings: &mut [i64],
+) -> FileAnswer
+    requires { ⌜ (place ≤ 128) × Lent (now entries) (now exits) (now titles) (now poolings) ⌝ }
+    ensures { λ r. ⌜ After place (inTurn hour zone (lines (drop at (now (file .entry)))) place) (now (entries .entry)) (now (exits .entry)) (now (titles .entry)) (now (poolings .entry)) r (now (entries .exit)) (now (exits .exit)) (now (titles .exit)) (now (poolings .exit)) ⌝ }
+{
+    if file.len() <= at {
+        return answer_read(hour, zone, place);
+    }
+    let line = line_at(file, at);
+    let next = at + line.len() + 2;
+    let row = match read_row(line) {
+        Line::Faulty(cause) => return FileAnswer::Refused(cause),
+        Line::Good(row) => row,
+    };
+    if !follows_on(row, place, hour, zone) {
+        return FileAnswer::Refused(16);
+    }
+    let answer = read_lines(
+        file,
+        next,
+        place + 1,
+        hour,
+        zone,
+        entries,
+        exits,
+        titles,
+        poolings,
+    );
+    if is_refused(answer) {
+        return answer;
+    }
+    store(row, place, entries, exits, titles, poolings);
+    answer
+}
+
+// Reads the lines from `at` on, where the header ends. The first line gives the hour and the zone, and is then read in its turn like any other.
+pub fn read_body(
+    file: &[u8],
+    at: usize,
+    entries: &mut [i64],
+    exits: &mut [i64],
+    titles: &mut [i64],
+    poolings: &mut [i64],
+) -> FileAnswer
+    requires { ⌜ Lent (now entries) (now exits) (now titles) (now poolings) ⌝ }
+    ensures { λ r. ⌜ After 0 (bodyOf (lines (drop at (now (file .entry))))) (now (entries .entry)) (now (exits .entry)) (now (titles .entry)) (now (poolings .entry)) r (now (entries .exit)) (now (exits .exit)) (now (titles .exit)) (now (poolings .exit)) ⌝ }
+{
+    if file.len() <= at {
+        return FileAnswer::Refused(17);
+    }
+    match read_row(line_at(file, at)) {
+        Line::Faulty(cause) => FileAnswer::Refused(cause),
+        Line::Good(first) => read_lines(
+            file,
+            at,
+            0,
+            first.hour,
+            first.zone,
+            entries,
+            exits,
+            titles,
+            poolings,
+        ),
+    }
+}

@@ -1,0 +1,5 @@
+-- Why the calls of the Gas Day answer as the rules say.
+mod Fits
+mod Openings
+mod Hours
+mod Closings
