@@ -1,15 +1,21 @@
--- "Figures to be proved: cases A to K", as one list over the definitions of the rules. "A threshold or price not named is 0." Assumes nothing.
+-- "Figures to be proved: cases A to K", as one list over the definitions of the rules and of the file. "A threshold or price not named is 0." Assumes nothing.
 use mathlib.Core.Path.{_≡_}
 use mathlib.Core.Bool.{false}
 use mathlib.Core.List.{List, [], _∷_, map}
 use Prim.Native.Nat.{ℕ}
 use lib.IntN.{ℤ, pos, negℤ}
-use lib.ListN.{length, take, replicate}
+use lib.ListN.{length, getD, take, replicate}
 use Rattle.rules.specs.declared.HourTerms.{HourTerms}
 use Rattle.rules.specs.Days.{newDay, part}
+use Rattle.rules.specs.Thresholds.{upperDefault, lowerDefault}
 use Rattle.rules.specs.Hours.{Hour, before}
 use Rattle.rules.specs.Answers.{openTable, hourTable, hourQuantity, hourMoney, closingMoney}
 use Rattle.rules.specs.History.{State, hour, step}
+use Rattle.allocation_file.specs.declared.FileAnswer.{FileAnswer}
+use Rattle.allocation_file.specs.declared.FileAnswer.the-variants.{Refused, Read}
+use Rattle.allocation_file.specs.Bytes.{bytes}
+use Rattle.allocation_file.specs.File.{File, outcome, answerOf, listOf}
+use Rattle.allocation_file.specs.Examples.{caseAText}
 
 -- what the definitions give, and what the paper says
 pub record Figure : Type 0 where
@@ -53,18 +59,39 @@ moneyOf n g = hourMoney (opened (pos n) .day) (opened (pos n) .table) g
 unfoldable pub afterOf : ℕ → Hour → List ℤ
 afterOf n g = take n (part (pos 0) (hourTable (opened (pos n) .day) (opened (pos n) .table) g))
 
--- case A, whose amounts are those of the file that "The program" gives
+-- ---- case A, by its file
+
+-- the file as it is read into lists that held something else
+unfoldable pub nines : List ℤ
+nines = replicate 128 (pos 9)
+
+unfoldable pub fileA : File
+fileA = outcome (bytes caseAText) nines nines nines nines
+
+-- what the reader answers: hour, zone and number of lines; or the cause alone
+unfoldable pub saidBy : FileAnswer → List ℤ
+saidBy (Refused cause) = pos cause ∷ []
+saidBy (Read f) = f .hour ∷ f .zone ∷ f .lines ∷ []
+
+unfoldable pub saidA : List ℤ
+saidA = saidBy (answerOf fileA)
+
+-- "opens a day of that many users, and settles the file's hour in the file's zone with January's defaults, excess price 20000, shortfall price 25000"
 unfoldable pub caseA : Hour
-caseA = record {
-  terms = record { zone = pos 0; hour = pos 1; upper = pos 22_000_000; lower = neg 22_000_000; «excess_price» = pos 20_000; «shortfall_price» = pos 25_000 };
-  entry = pos 30_000_000 ∷ pos 15_000_000 ∷ pos 2_000_000 ∷ [];
-  exit = neg 10_000_000 ∷ neg 5_000_000 ∷ neg 5_000_000 ∷ [];
-  title = replicate 3 (pos 0);
-  pooling = replicate 3 (pos 0);
-  quantity = replicate 3 (pos 9);
-  money = replicate 3 (pos 9);
-  scratch = replicate 3 9;
-}
+caseA =
+    let zone = getD saidA 1 (pos 9) in
+    record {
+      terms = record { zone = zone; hour = getD saidA 0 (pos 9); upper = upperDefault (pos 1) zone; lower = lowerDefault (pos 1) zone; «excess_price» = pos 20_000; «shortfall_price» = pos 25_000 };
+      entry = take 3 (listOf (λ r. r .entry) fileA nines);
+      exit = take 3 (listOf (λ r. r .exit) fileA nines);
+      title = take 3 (listOf (λ r. r .title) fileA nines);
+      pooling = take 3 (listOf (λ r. r .pooling) fileA nines);
+      quantity = replicate 3 (pos 9);
+      money = replicate 3 (pos 9);
+      scratch = replicate 3 9;
+    }
+
+-- ---- the others
 
 unfoldable pub caseB : Hour
 caseB = positioned (pos 1 ∷ pos 1 ∷ pos 1 ∷ []) (termsOf 1 (pos 1) (pos 0) (pos 0))
@@ -92,8 +119,9 @@ caseK =
 
 unfoldable pub figures : List Figure
 figures =
-    -- A: positions before, quantities, money, positions after
-    record { defined = before (opened (pos 3) .day) (opened (pos 3) .table) caseA; paper = pos 20_000_000 ∷ pos 10_000_000 ∷ neg 3_000_000 ∷ [] }
+    -- A: hour, zone and number of lines; positions before, quantities, money, positions after
+    record { defined = saidA; paper = pos 1 ∷ pos 0 ∷ pos 3 ∷ [] }
+    ∷ record { defined = before (opened (pos 3) .day) (opened (pos 3) .table) caseA; paper = pos 20_000_000 ∷ pos 10_000_000 ∷ neg 3_000_000 ∷ [] }
     ∷ record { defined = quantityOf 3 caseA; paper = pos 3_333_333 ∷ pos 1_666_667 ∷ pos 0 ∷ [] }
     ∷ record { defined = moneyOf 3 caseA; paper = pos 66_666_660_000 ∷ pos 33_333_340_000 ∷ pos 0 ∷ [] }
     ∷ record { defined = afterOf 3 caseA; paper = pos 16_666_667 ∷ pos 8_333_333 ∷ neg 3_000_000 ∷ [] }
