@@ -1,0 +1,23 @@
+-- Case by case. Assumes nothing.
+use mathlib.Core.Path.{_≡_, sym, ap, _∙_}
+use Rattle.gas_day_c.specs.Flat.{flatOpen}
+use Rattle.rules.specs.Days.{newDay}
+use borrow.Author.Needs.{needs}
+use Rattle.gas_day_c.proofs.flat_open.Statement.{statement}
+use Rattle.gas_day_c.proofs.flat_open.Tie as tie
+
+enum-known-answer : tie.Need-enum-known-answer
+enum-known-answer c = search needs
+
+enum-known-answer-2 : tie.Need-enum-known-answer-2
+enum-known-answer-2 c = search needs
+
+returns : tie.Need-returns
+unfolding newDay
+returns c = sym (ap flatOpen (c .before .answer .given .1))
+
+returns-2 : tie.Need-returns-2
+returns-2 c = sym (ap flatOpen (c .before .answer2 .given .1))
+
+pub flat-open-spec : {M : Type 1} → statement M
+flat-open-spec = tie.close (tie.spec enum-known-answer enum-known-answer-2 returns returns-2)

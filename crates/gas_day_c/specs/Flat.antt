@@ -1,0 +1,89 @@
+-- An answer as a struct that C can hold: its cause, 0 for none, and its values; what a refusal does not answer is 0. And what each call for C promises: the same
+-- definitions as of the call that it wraps. Assumes nothing.
+use mathlib.Core.Path.{_≡_}
+use mathlib.Core.List.{List}
+use Prim.Native.Nat.{ℕ}
+use lib.IntN.{ℤ, pos}
+use Rattle.rules.specs.declared.Day.{Day}
+use Rattle.rules.specs.declared.Side.{Side}
+use Rattle.rules.specs.declared.Side.the-variants.{Excess, Shortfall}
+use Rattle.rules.specs.declared.Outcome.{Outcome}
+use Rattle.rules.specs.declared.Outcome.the-variants.{Within, Settled}
+use Rattle.rules.specs.declared.OpenAnswer.{OpenAnswer}
+use Rattle.rules.specs.declared.OpenAnswer.the-variants.{Refused as OpenRefused, Opened}
+use Rattle.rules.specs.declared.ThresholdsAnswer.{ThresholdsAnswer}
+use Rattle.rules.specs.declared.ThresholdsAnswer.the-variants.{Refused as ThresholdsRefused, Defaults}
+use Rattle.rules.specs.declared.HourAnswer.{HourAnswer}
+use Rattle.rules.specs.declared.HourAnswer.the-variants.{Refused as HourRefused, Done}
+use Rattle.rules.specs.declared.ClosingAnswer.{ClosingAnswer}
+use Rattle.rules.specs.declared.ClosingAnswer.the-variants.{Refused as ClosingRefused, Closed}
+use Rattle.rules.specs.Days.{newDay}
+use Rattle.rules.specs.Hours.{Hour, Closing}
+use Rattle.rules.specs.Answers.{openAnswer, openTable, hourAnswer, hourTable, hourQuantity, hourMoney, hourScratch, closingAnswer, closingTable, closingQuantity, closingMoney}
+use Rattle.allocation_file.specs.declared.FileAnswer.{FileAnswer}
+use Rattle.allocation_file.specs.declared.FileAnswer.the-variants.{Refused as FileRefused, Read}
+use Rattle.allocation_file.specs.File.{outcome, answerOf, listOf}
+use Rattle.gas_day_c.specs.declared.OpenC.{OpenC}
+use Rattle.gas_day_c.specs.declared.ThresholdsC.{ThresholdsC}
+use Rattle.gas_day_c.specs.declared.HourC.{HourC}
+use Rattle.gas_day_c.specs.declared.ClosingC.{ClosingC}
+use Rattle.gas_day_c.specs.declared.FileC.{FileC}
+
+-- ---- opening: a refusal gives the record of no users
+
+abbrev pub flatOpen : OpenAnswer → OpenC
+flatOpen (OpenRefused k) = record { cause = k; day = newDay (pos 0) }
+flatOpen (Opened d) = record { cause = 0; day = d }
+
+pub record OpenForC (n : ℤ) (t t' : List ℤ) (r : OpenC) : Type 0 where
+  pub answer : r ≡ flatOpen (openAnswer n t)
+  pub table : t' ≡ openTable n t
+
+-- ---- default thresholds
+
+abbrev pub flatThresholds : ThresholdsAnswer → ThresholdsC
+flatThresholds (ThresholdsRefused k) = record { cause = k; upper = pos 0; lower = pos 0 }
+flatThresholds (Defaults t) = record { cause = 0; upper = t .upper; lower = t .lower }
+
+-- ---- an hour: the side is 0 within the thresholds, 1 in an excess, 2 in a shortfall
+
+abbrev pub flatDone : Day → Outcome → HourC
+flatDone d Within = record { cause = 0; day = d; side = 0; total = pos 0; first = 0; second = 0; number = 0 }
+flatDone d (Settled (Excess n) m) = record { cause = 0; day = d; side = 1; total = n; first = m .first; second = m .second; number = m .number }
+flatDone d (Settled (Shortfall n) m) = record { cause = 0; day = d; side = 2; total = n; first = m .first; second = m .second; number = m .number }
+
+abbrev pub flatHour : HourAnswer → HourC
+flatHour (HourRefused r) = record { cause = r .number; day = r .day; side = 0; total = pos 0; first = 0; second = 0; number = 0 }
+flatHour (Done r) = flatDone (r .day) (r .outcome)
+
+pub record HourForC (d : Day) (t : List ℤ) (g : Hour) (t' q' m' : List ℤ) (s' : List ℕ) (r : HourC) : Type 0 where
+  pub answer : r ≡ flatHour (hourAnswer d t g)
+  pub table : t' ≡ hourTable d t g
+  pub quantity : q' ≡ hourQuantity d t g
+  pub money : m' ≡ hourMoney d t g
+  pub scratch : s' ≡ hourScratch d t g
+
+-- ---- a closing
+
+abbrev pub flatClosing : ClosingAnswer → ClosingC
+flatClosing (ClosingRefused r) = record { cause = r .number; day = r .day; sold = pos 0; bought = pos 0 }
+flatClosing (Closed r) = record { cause = 0; day = r .day; sold = r .sold; bought = r .bought }
+
+pub record ClosingForC (d : Day) (t : List ℤ) (g : Closing) (t' q' m' : List ℤ) (r : ClosingC) : Type 0 where
+  pub answer : r ≡ flatClosing (closingAnswer d t g)
+  pub table : t' ≡ closingTable d t g
+  pub quantity : q' ≡ closingQuantity d t g
+  pub money : m' ≡ closingMoney d t g
+
+-- ---- the hour's file
+
+abbrev pub flatFile : FileAnswer → FileC
+flatFile (FileRefused k) = record { cause = k; hour = pos 0; zone = pos 0; lines = pos 0 }
+flatFile (Read f) = record { cause = 0; hour = f .hour; zone = f .zone; lines = f .lines }
+
+pub record FileForC (s : List ℕ) (a b c d : List ℤ) (r : FileC) (a′ b′ c′ d′ : List ℤ) : Type 0 where
+  pub answer : r ≡ flatFile (answerOf (outcome s a b c d))
+  pub entries : a′ ≡ listOf (λ w. w .entry) (outcome s a b c d) a
+  pub exits : b′ ≡ listOf (λ w. w .exit) (outcome s a b c d) b
+  pub titles : c′ ≡ listOf (λ w. w .title) (outcome s a b c d) c
+  pub poolings : d′ ≡ listOf (λ w. w .pooling) (outcome s a b c d) d

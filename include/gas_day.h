@@ -1,0 +1,162 @@
+/* The Gas Day for C: opening, default thresholds, an hour's settlement, a zone's closing, and the reader of an hour's file.
+ *
+ * Link with target/staticlib/libgas_day_c.a, which `rt staticlib gas_day_c` makes.
+ *
+ * Every call answers a cause: 0, and then the answer and every lent area are what the rules name; or the number of the first cause that applies, and then every
+ * lent area is as it was, the record is the one given, and the other values are 0. A call returns for every input. It keeps no pointer and no state.
+ *
+ * Energy is in kWh, a price in millionths of a euro per kWh, money in millionths of a euro. Zones: 0 is H, 1 is L. An area is a pointer and its number of places.
+ *
+ * What the caller owes, and no call can check: a pointer to that many places that may be read and, where it is not const, written; no two areas of one call
+ * overlap, unless both are const; `closed` is 0 or 1. A pointer of an area of 0 places may be anything but NULL. Every other wrong number or length is
+ * refused by its cause.
+ */
+#ifndef GAS_DAY_H
+#define GAS_DAY_H
+
+#include <stdbool.h>
+#include <stddef.h>
+#include <stdint.h>
+
+#ifdef __cplusplus
+extern "C" {
+#endif
+
+/* ---- limits */
+
+#define GAS_DAY_TABLE_PLACES 256 /* 128 for the H zone, then 128 for the L zone */
+#define GAS_DAY_ZONE_PLACES 128
+#define GAS_DAY_FILE_PLACES 128 /* of each of the reader's four lists */
+#define GAS_DAY_USERS_LEAST 1
+#define GAS_DAY_USERS_MOST 128
+#define GAS_DAY_HOURS 24
+#define GAS_DAY_ENTRY_MOST INT64_C(50000000)      /* entry (EEA): 0 to this */
+#define GAS_DAY_EXIT_LEAST INT64_C(-50000000)     /* exit (XEA): this to 0 */
+#define GAS_DAY_TITLE_MOST INT64_C(50000000)      /* net title transfer (NCTTN): of either sign */
+#define GAS_DAY_POOLING_MOST INT64_C(100000000)   /* pooling transfer (IPT): of either sign */
+#define GAS_DAY_POSITION_MOST INT64_C(100000000)  /* a position, before or after settlement: of either sign */
+#define GAS_DAY_THRESHOLD_MOST INT64_C(1000000000) /* upper: 0 to this; lower: minus this to 0 */
+#define GAS_DAY_PRICE_MOST INT64_C(10000000)      /* of either sign */
+
+/* ---- causes: the first that applies, in the order of their numbers */
+
+enum {
+    GAS_DAY_ACCEPTED = 0,
+    GAS_DAY_USERS = 1,            /* opening: user count not 1 to 128 */
+    GAS_DAY_RECORD = 2,           /* record's user count not 1 to 128, hours not 0 to 24, or a zone closed with fewer than 24 */
+    GAS_DAY_LENGTH = 3,           /* table not of 256 places, or a list or the scratch not of exactly the user count */
+    GAS_DAY_ZONE = 4,             /* zone not 0 or 1 */
+    GAS_DAY_CLOSED = 5,           /* zone closed */
+    GAS_DAY_HOUR = 6,             /* hour is not hours done plus 1, or above 24; at closing, hours done below 24 */
+    GAS_DAY_TABLE = 7,            /* a position outside its range, or a place that has to be zero and is not */
+    GAS_DAY_TERMS = 8,            /* threshold or price out of range; month not 1 to 12 */
+    GAS_DAY_AMOUNT = 9,           /* an amount out of range */
+    GAS_DAY_POOLING = 10,         /* pooling amounts do not add to zero */
+    GAS_DAY_POSITION = 11,        /* a position before settlement out of range */
+    GAS_DAY_FILE_LENGTH = 12,     /* a reader's list not of 128 places */
+    GAS_DAY_FILE_HEADER = 13,     /* header differs */
+    GAS_DAY_FILE_FORM = 14,       /* a line's form or field count */
+    GAS_DAY_FILE_FIELD = 15,      /* a field's number or zone letter */
+    GAS_DAY_FILE_ORDER = 16,      /* h or z differs from the first line, or g is not the next place below 128 */
+    GAS_DAY_FILE_EMPTY = 17       /* no line after the header */
+};
+
+/* ---- the day record: given by value, answered by value */
+
+typedef struct {
+    int64_t hours; /* done, 0 to 24 */
+    bool closed;
+} gas_day_zone_day;
+
+typedef struct {
+    int64_t users;
+    gas_day_zone_day h;
+    gas_day_zone_day l;
+} gas_day_day;
+
+/* ---- opening: causes 1, 3. Sets all 256 places to zero. A refusal answers a record of 0 users */
+
+typedef struct {
+    uint64_t cause;
+    gas_day_day day;
+} gas_day_opened;
+
+gas_day_opened gas_day_open(int64_t users, int64_t *table, size_t table_places);
+
+/* ---- default thresholds by month (1 to 12) and zone: causes 4, 8 */
+
+typedef struct {
+    uint64_t cause;
+    int64_t upper;
+    int64_t lower;
+} gas_day_thresholds;
+
+gas_day_thresholds gas_day_default_thresholds(int64_t month, int64_t zone);
+
+/* ---- an hour: causes 2 to 11. Fills quantity and money, changes the users' places of the zone in the table, sets the scratch to zero */
+
+typedef struct {
+    int64_t zone;
+    int64_t hour; /* hours done in the zone, plus 1 */
+    int64_t upper;
+    int64_t lower;
+    int64_t excess_price;
+    int64_t shortfall_price;
+} gas_day_hour_terms;
+
+enum {
+    GAS_DAY_WITHIN = 0, /* the market was within its thresholds */
+    GAS_DAY_EXCESS = 1,
+    GAS_DAY_SHORTFALL = 2
+};
+
+typedef struct {
+    uint64_t cause;
+    gas_day_day day;
+    uint64_t side;   /* GAS_DAY_WITHIN, GAS_DAY_EXCESS or GAS_DAY_SHORTFALL */
+    int64_t total;   /* of the excess or shortfall, as a size */
+    uint64_t first;  /* the causers of places 0 to 63, place 0 at the lowest bit */
+    uint64_t second; /* the causers of places 64 to 127 */
+    uint64_t number; /* of causers */
+} gas_day_hour;
+
+gas_day_hour gas_day_settle_hour(gas_day_day day, int64_t *table, size_t table_places, gas_day_hour_terms terms, const int64_t *entry, size_t entry_places,
+                                 const int64_t *exit, size_t exit_places, const int64_t *title, size_t title_places, const int64_t *pooling,
+                                 size_t pooling_places, int64_t *quantity, size_t quantity_places, int64_t *money, size_t money_places, uint64_t *scratch,
+                                 size_t scratch_places);
+
+/* ---- a closing, after 24 hours: causes 2 to 8. Fills quantity and money, sets the zone's places in the table to zero */
+
+typedef struct {
+    int64_t zone;
+    int64_t excess_price;
+    int64_t shortfall_price;
+} gas_day_closing_terms;
+
+typedef struct {
+    uint64_t cause;
+    gas_day_day day;
+    int64_t sold;   /* in kWh, as a size */
+    int64_t bought; /* in kWh, as a size */
+} gas_day_closing;
+
+gas_day_closing gas_day_close_zone(gas_day_day day, int64_t *table, size_t table_places, gas_day_closing_terms terms, int64_t *quantity,
+                                   size_t quantity_places, int64_t *money, size_t money_places);
+
+/* ---- the hour's file: causes 12 to 17. Fills the first as many places of each list as there are lines, and touches no others */
+
+typedef struct {
+    uint64_t cause;
+    int64_t hour;
+    int64_t zone;
+    int64_t lines; /* 1 to 128 */
+} gas_day_file;
+
+gas_day_file gas_day_read_hour_file(const uint8_t *file, size_t file_bytes, int64_t *entries, size_t entries_places, int64_t *exits, size_t exits_places,
+                                    int64_t *titles, size_t titles_places, int64_t *poolings, size_t poolings_places);
+
+#ifdef __cplusplus
+}
+#endif
+
+#endif

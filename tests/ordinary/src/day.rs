@@ -1,0 +1,32 @@
+//! The day record, and opening a day.
+
+use crate::{cause, limits};
+
+/// "The day record is passed by value and holds the user count and, for each zone,
+/// the hours done (0 to 24) and whether it is closed."
+#[derive(Clone, Copy, PartialEq, Eq, Debug)]
+pub struct Day {
+    /// Users in the day, 1 to 128.
+    pub users: i64,
+    /// Hours done in zone 0 (H) and zone 1 (L).
+    pub hours: [i64; 2],
+    /// Whether zone 0 (H) and zone 1 (L) are closed.
+    pub closed: [bool; 2],
+}
+
+/// "Opening sets all 256 places to zero and answers a record with no hours done and
+/// no zone closed." Causes 1 and 3.
+pub fn open(users: i64, table: &mut [i64]) -> Result<Day, u64> {
+    if !limits::USERS.contains(&users) {
+        return Err(cause::OPENING_USERS);
+    }
+    if table.len() != limits::TABLE {
+        return Err(cause::LENGTH);
+    }
+    table.fill(0);
+    Ok(Day {
+        users,
+        hours: [0; 2],
+        closed: [false; 2],
+    })
+}
