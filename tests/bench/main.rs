@@ -113,17 +113,29 @@ fn compare(name: &str, inputs: &[Input], cause: u64) {
     println!("| {name} | {ours:.0} | {theirs:.0} | {:.2} |", ours / theirs);
 }
 
-fn inputs(random: &mut Random, kind: Kind, change: fn(&mut Input)) -> Vec<Input> {
+fn inputs(random: &mut Random, kind: Kind, change: fn(usize, &mut Input)) -> Vec<Input> {
     (0..INPUTS)
-        .map(|_| {
+        .map(|number| {
             let mut table = vec![0; 256];
             table[..USERS].fill_with(|| random.between(-1_000_000, 1_000_000));
             let hour = made_up::hour(random, USERS, kind, &table[..128]);
             let mut input = Input { table, hour };
-            change(&mut input);
+            change(number, &mut input);
             input
         })
         .collect()
+}
+
+/// The last user's amount in one of the four lists, in turn, out of its range.
+fn spoil_last(number: usize, input: &mut Input) {
+    let hour = &mut input.hour;
+    let list = match number % 4 {
+        0 => &mut hour.entry,
+        1 => &mut hour.exit,
+        2 => &mut hour.title,
+        _ => &mut hour.pooling,
+    };
+    list[USERS - 1] = 100_000_001;
 }
 
 fn main() {
@@ -131,21 +143,18 @@ fn main() {
     println!("| kind of hour, 128 users | library, ns | ordinary Rust, ns | ratio |");
     println!("|---|---|---|---|");
     for kind in Kind::ALL {
-        let inputs = inputs(&mut random, kind, |_| ());
+        let inputs = inputs(&mut random, kind, |_, _| ());
         compare(&format!("{kind:?}"), &inputs, 0);
     }
-    let last = USERS - 1;
-    let excess = Kind::Excess;
-    let refused: [(&str, fn(&mut Input), u64); 5] = [
-        ("refused by 3", |input| input.hour.pooling.truncate(USERS - 1), 3),
-        ("refused by 7, last place", |input| input.table[255] = 1, 7),
-        ("refused by 8", |input| input.hour.terms.lower = 1, 8),
-        ("refused by 9, last user", |input| input.hour.entry[USERS - 1] = -1, 9),
-        ("refused by 10", |input| input.hour.pooling[0] += 1, 10),
+    let refused: [(&str, fn(usize, &mut Input), u64); 5] = [
+        ("refused by 3", |_, input| input.hour.pooling.truncate(USERS - 1), 3),
+        ("refused by 7, last place", |_, input| input.table[255] = 1, 7),
+        ("refused by 8", |_, input| input.hour.terms.lower = 1, 8),
+        ("refused by 9, last user of any list", spoil_last, 9),
+        ("refused by 10", |_, input| input.hour.pooling[0] += 1, 10),
     ];
-    assert_eq!(last, 127);
     for (name, change, cause) in refused {
-        let inputs = inputs(&mut random, excess, change);
+        let inputs = inputs(&mut random, Kind::Excess, change);
         compare(name, &inputs, cause);
     }
 }

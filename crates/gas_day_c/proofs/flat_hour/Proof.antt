@@ -1,5 +1,5 @@
 -- Case by case. Assumes nothing.
-use mathlib.Core.Path.{_≡_, sym, ap, _∙_}
+use mathlib.Core.Path.{sym, ap, _∙_}
 use Rattle.gas_day_c.specs.Flat.{flatHour}
 use borrow.Author.Needs.{needs}
 use Rattle.gas_day_c.proofs.flat_hour.Statement.{statement}

@@ -1,5 +1,5 @@
 -- Case by case. Assumes nothing.
-use mathlib.Core.Path.{_≡_, sym, ap, _∙_}
+use mathlib.Core.Path.{sym, ap}
 use Rattle.gas_day_c.specs.Flat.{flatOpen}
 use Rattle.rules.specs.Days.{newDay}
 use borrow.Author.Needs.{needs}

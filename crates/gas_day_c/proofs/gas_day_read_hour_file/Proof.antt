@@ -1,5 +1,5 @@
 -- The wrapped call, and its answer for C. Assumes nothing.
-use mathlib.Core.Path.{_≡_, sym, ap, _∙_}
+use mathlib.Core.Path.{ap, _∙_}
 use Rattle.gas_day_c.specs.Flat.{flatFile}
 use borrow.Author.Needs.{needs}
 use Rattle.gas_day_c.proofs.gas_day_read_hour_file.Statement.{statement}
