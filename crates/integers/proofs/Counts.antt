@@ -1,6 +1,6 @@
 -- Tests as numbers, counts of the elements that pass a test, sums of naturals, and lists given place by place. Assumes nothing.
 use mathlib.Core.Path.{_≡_, refl, ap, ap₂}
-use mathlib.Core.Bool.{Bool, true, false, _&&_}
+use mathlib.Core.Bool.{Bool, true, false}
 use mathlib.Core.List.{List, [], _∷_, map}
 use Prim.Native.Nat.{ℕ, zero, suc, _+_, _-_, _*_, _≤_, _<_, min, zero-le}
 use native.Mathlib.Omega.{arith}
@@ -25,12 +25,6 @@ bit-eqb a b = go (eqb a b) refl
     go : (t : Bool) → eqb a b ≡ t → bit t ≡ 1 - ((a - b) + (b - a))
     go true e = omega (arith, eqb-true a b e)
     go false e = omega (arith, eqb-false a b e)
-
-pub bit-and : (a b : Bool) → bit (a && b) ≡ min (bit a) (bit b)
-bit-and true true = refl
-bit-and true false = refl
-bit-and false true = refl
-bit-and false false = refl
 
 pub bit-le : (b : Bool) → bit b ≤ 1
 bit-le true = omega arith

@@ -1,6 +1,6 @@
 -- Signed numbers in the machine. In a function's proof a signed local is its bits, and reading it shows as `toZ w64 (ofZ w64 x)`: what is read back is x where x
 -- fits, and is no larger in any case. Assumes nothing.
-use mathlib.Core.Path.{_≡_, refl, sym, ap, _∙_}
+use mathlib.Core.Path.{_≡_, refl, sym, _∙_}
 use mathlib.Core.Bool.{Bool, true, false}
 use Prim.Native.Nat.{ℕ, suc, _+_, _*_, _-_, _^_, _≤_, _<_}
 use native.Mathlib.Omega.{arith}
@@ -50,10 +50,6 @@ fits-size {x} f = go x (f .sfits)
     go : (x : ℤ) → mag x < 2 ^ 63 → natAbs x ≤ 2 ^ 63
     go (pos n) h = omega arith
     go (negsuc n) h = omega arith
-
--- `==` compares the bits
-pub bits-eq : {x y : ℤ} → SFits w64 x → SFits w64 y → ofZ w64 x ≡ ofZ w64 y → x ≡ y
-bits-eq f g e = sym (read f) ∙ ap (toZ w64) e ∙ read g
 
 pub zero-bits : {x : ℤ} → SFits w64 x → eqb (ofZ w64 x) 0 ≡ isZero x
 zero-bits {x} f = go x (f .sfits)
