@@ -1,0 +1,47 @@
+-- Nothing has to hold from turn to turn; the measure is the number of places left. Assumes nothing.
+use Prim.Native.Nat.{_-_}
+use native.Mathlib.Omega.{arith}
+use borrow.Author.Needs.{needs}
+use Rattle.edges.proofs.compare.part_cleared.Statement.{statement}
+use Rattle.edges.proofs.compare.part_cleared.Tie as tie
+
+abbrev Inv-loop : tie.InvT-loop
+Inv-loop table zone i₀ i = Unit
+
+abbrev μ-loop : tie.MeasureT-loop
+μ-loop table zone i₀ i = 128 - i
+
+loop-holds : tie.Need-loop-holds Inv-loop μ-loop
+loop-holds c = search needs
+
+place-of-requires : tie.Need-place-of-requires Inv-loop μ-loop
+place-of-requires c κs = search needs
+
+returns : tie.Need-returns Inv-loop μ-loop
+returns c = search needs
+
+add-i : tie.Need-add-i Inv-loop μ-loop
+add-i c = search needs
+
+loop-less : tie.Need-loop-less Inv-loop μ-loop
+loop-less c = omega arith
+
+loop-again : tie.Need-loop-again Inv-loop μ-loop
+loop-again c = search needs
+
+returns-2 : tie.Need-returns-2 Inv-loop μ-loop
+returns-2 c = search needs
+
+pub part-cleared-spec : {M : Type 1} → statement M
+part-cleared-spec =
+    tie.close
+    (tie.spec
+    Inv-loop
+    μ-loop
+    loop-holds
+    place-of-requires
+    returns
+    add-i
+    loop-less
+    loop-again
+    returns-2)

@@ -1,0 +1,13 @@
+-- The examples, computed by the definitions. Assumes nothing.
+use mathlib.Core.Path.{refl}
+use Rattle.allocation_file.specs.Rows.{asRow}
+use Rattle.allocation_file.specs.File.{fileOf}
+use Rattle.rules.specs.Compute.{rules}
+use Rattle.report.specs.Decimals.{digitsIn, digits, decimal}
+use Rattle.report.specs.Text.{lineEnd, heading, field, userLine, refusedLine, lineAt, userLines, hourText}
+use Rattle.firsthour.specs.Printed.{unlessRefused, settled, termsOf, januaryTerms, withDefaults, opened, openedNew, ofFile, printed}
+use Rattle.firsthour.specs.Examples.{ExamplesComputed}
+
+pub examples-computed : ExamplesComputed
+unfolding asRow fileOf rules digitsIn digits decimal lineEnd heading field userLine refusedLine lineAt userLines hourText unlessRefused settled termsOf januaryTerms withDefaults opened openedNew ofFile printed
+examples-computed = record { case-a = refl; empty = refl; header-only = refl; hour-2 = refl; zone-l = refl }

@@ -1,0 +1,86 @@
+-- By the answer on the thresholds. Assumes nothing.
+use mathlib.Core.Path.{_≡_, sym, ap, _∙_}
+use lib.IntN.{pos}
+use Rattle.integers.proofs.Machine.{read}
+use Rattle.rules.specs.Answers.{thresholdsAnswer}
+use Rattle.firsthour.specs.Printed.{termsOf, januaryTerms, withDefaults}
+use Rattle.firsthour.proofs.Opening.{accepted-text, thresholds-refused, thresholds-none, thresholds-are}
+use borrow.Author.Needs.{needs}
+use Rattle.firsthour.proofs.january_text.Statement.{statement}
+use Rattle.firsthour.proofs.january_text.Tie as tie
+
+answered : (c : tie.After-default-thresholds) → c .default-thresholds .result ≡ thresholdsAnswer (pos 1) (c .before .before .before .args .zone)
+answered c = rw (read (c .before .before .before .fits .zone)) at (c .default-thresholds .ensures)
+
+default-thresholds-requires : tie.Need-default-thresholds-requires
+default-thresholds-requires c κs = search needs
+
+enum-known-number : tie.Need-enum-known-number
+enum-known-number c = search needs
+
+write-refused-requires : tie.Need-write-refused-requires
+write-refused-requires c κs = search needs
+
+same-length : tie.Need-same-length
+same-length c = search needs
+
+returns : tie.Need-returns
+unfolding withDefaults
+returns c =
+    rw (thresholds-refused (pos 1) (c .before .before .before .before .before .before .before .before .before .before .args .zone) _ (sym (c .before .before .before .before .before .number .given .1) ∙ answered (c .before .before .before .before .before .before .before))) (c .before .before .write-refused .ensures)
+
+enum-known-thresholds : tie.Need-enum-known-thresholds
+enum-known-thresholds c = search needs
+
+terms-of-requires : tie.Need-terms-of-requires
+terms-of-requires c κs = search needs
+
+hour-text-requires : tie.Need-hour-text-requires
+hour-text-requires c κs = search needs
+
+same-length-2 : tie.Need-same-length-2
+same-length-2 c = search needs
+
+same-length-3 : tie.Need-same-length-3
+same-length-3 c = search needs
+
+same-length-4 : tie.Need-same-length-4
+same-length-4 c = search needs
+
+same-length-5 : tie.Need-same-length-5
+same-length-5 c = search needs
+
+same-length-6 : tie.Need-same-length-6
+same-length-6 c = search needs
+
+same-length-7 : tie.Need-same-length-7
+same-length-7 c = search needs
+
+returns-2 : tie.Need-returns-2
+unfolding withDefaults januaryTerms
+returns-2 c =
+    let a = c .before .before .before .before .before .before .before .before .before .before .before .before .before .before .before .before .before .before .before .before .before .before .args in
+    let f = c .before .before .before .before .before .before .before .before .before .before .before .before .before .before .before .before .before .before .before .before .before .before .fits in
+    let e = sym (c .before .before .before .before .before .before .before .before .before .before .before .before .before .before .before .before .before .thresholds .given .1) ∙ answered (c .before .before .before .before .before .before .before .before .before .before .before .before .before .before .before .before .before .before .before) in
+    let t = (rw (read (f .hour), read (f .zone)) at (c .before .before .before .before .before .before .before .before .before .before .before .before .before .terms-of .ensures)) ∙ ap (termsOf (a .hour) (a .zone)) (thresholds-are (pos 1) (a .zone) e) in
+    rw (accepted-text _ (thresholds-none (pos 1) (a .zone) e)) (rw t at (c .before .before .before .before .before .before .before .before .hour-text .ensures))
+
+pub january-text-spec : {M : Type 1} → statement M
+january-text-spec =
+    tie.close
+    (tie.spec
+    default-thresholds-requires
+    enum-known-number
+    write-refused-requires
+    same-length
+    returns
+    enum-known-thresholds
+    terms-of-requires
+    hour-text-requires
+    same-length-2
+    same-length-3
+    same-length-4
+    same-length-5
+    same-length-6
+    same-length-7
+    returns-2)

@@ -1,0 +1,125 @@
+// The text that the program prints, written into bytes that are lent. Each function answers where its text ends.
+ghost use mathlib.Core.List.{[], _∷_};
+ghost use Prim.Native.Nat.{_+_, _≤_, _<_};
+ghost use lib.ListN.{length};
+ghost use Rattle.report.specs.Decimals.{digits, decimal};
+ghost use Rattle.report.specs.Text.{field, userLine, refusedLine, hourText};
+ghost use Rattle.report.specs.Puts.{Put, HourRoom};
+
+// The first line, before the users' lines.
+const HEADING: [u8; 24] = *b"g,before,q,money,after\r\n";
+
+const REFUSED: [u8; 8] = *b"refused,";
+
+const LINE_END: [u8; 2] = *b"\r\n";
+
+fn write_byte(out: &mut [u8], at: usize, byte: u8) -> usize
+    requires { ⌜ at < length (now out) ⌝ }
+    ensures { λ r. ⌜ Put (now (out .entry)) at (byte ∷ []) (now (out .exit)) r ⌝ }
+{
+    out[at] = byte;
+    at + 1
+}
+
+fn write_bytes(out: &mut [u8], at: usize, text: &[u8]) -> usize
+    requires { ⌜ at + length (now text) ≤ length (now out) ⌝ }
+    ensures { λ r. ⌜ Put (now (out .entry)) at (now (text .entry)) (now (out .exit)) r ⌝ }
+{
+    let mut i: usize = 0;
+    while i < text.len() {
+        out[at + i] = text[i];
+        i += 1;
+    }
+    at + i
+}
+
+// The digits of a number: those of its tenth, if it has more than one, then its last. The calls are at most 20 deep.
+fn write_digits(out: &mut [u8], at: usize, n: u64) -> usize
+    requires { ⌜ at + length (digits n) ≤ length (now out) ⌝ }
+    ensures { λ r. ⌜ Put (now (out .entry)) at (digits n) (now (out .exit)) r ⌝ }
+{
+    if n < 10 {
+        return write_byte(out, at, b'0' + n as u8);
+    }
+    let last = write_digits(out, at, n / 10);
+    write_byte(out, last, b'0' + (n % 10) as u8)
+}
+
+// Every number of 64 bits has at most 20 bytes.
+pub fn write_decimal(out: &mut [u8], at: usize, value: i64) -> usize
+    requires { ⌜ at + 20 ≤ length (now out) ⌝ }
+    ensures { λ r. ⌜ Put (now (out .entry)) at (decimal value) (now (out .exit)) r × (r ≤ at + 20) ⌝ }
+{
+    if value < 0 {
+        let first = write_byte(out, at, b'-');
+        return write_digits(out, first, integers::magnitude(value));
+    }
+    write_digits(out, at, integers::magnitude(value))
+}
+
+fn write_field(out: &mut [u8], at: usize, value: i64) -> usize
+    requires { ⌜ at + 21 ≤ length (now out) ⌝ }
+    ensures { λ r. ⌜ Put (now (out .entry)) at (field value) (now (out .exit)) r × (r ≤ at + 21) ⌝ }
+{
+    let end = write_decimal(out, at, value);
+    write_byte(out, end, b',')
+}
+
+// A user's line: four fields of at most 21 bytes with their commas, a fifth of at most 20, and the line's end.
+pub fn write_user_line(
+    out: &mut [u8],
+    at: usize,
+    place: i64,
+    before: i64,
+    quantity: i64,
+    money: i64,
+    after: i64,
+) -> usize
+    requires { ⌜ at + 106 ≤ length (now out) ⌝ }
+    ensures { λ r. ⌜ Put (now (out .entry)) at (userLine place before quantity money after) (now (out .exit)) r × (r ≤ at + 106) ⌝ }
+{
+    let end = write_field(out, at, place);
+    let end = write_field(out, end, before);
+    let end = write_field(out, end, quantity);
+    let end = write_field(out, end, money);
+    let end = write_decimal(out, end, after);
+    write_bytes(out, end, &LINE_END)
+}
+
+// The one line of a refusal.
+pub fn write_refused(out: &mut [u8], number: u64) -> usize
+    requires { ⌜ 30 ≤ length (now out) ⌝ }
+    ensures { λ r. ⌜ Put (now (out .entry)) 0 (refusedLine number) (now (out .exit)) r ⌝ }
+{
+    let end = write_bytes(out, 0, &REFUSED);
+    let end = write_digits(out, end, number);
+    write_bytes(out, end, &LINE_END)
+}
+
+// The whole text of an hour that is settled.
+pub fn write_hour(
+    out: &mut [u8],
+    before: &[i64],
+    quantity: &[i64],
+    money: &[i64],
+    after: &[i64],
+) -> usize
+    requires { ⌜ HourRoom (now out) (now before) (now quantity) (now money) (now after) ⌝ }
+    ensures { λ r. ⌜ Put (now (out .entry)) 0 (hourText (now (before .entry)) (now (quantity .entry)) (now (money .entry)) (now (after .entry))) (now (out .exit)) r ⌝ }
+{
+    let mut at = write_bytes(out, 0, &HEADING);
+    let mut i: usize = 0;
+    while i < quantity.len() {
+        at = write_user_line(
+            out,
+            at,
+            integers::signed(i as u64),
+            before[i],
+            quantity[i],
+            money[i],
+            after[i],
+        );
+        i += 1;
+    }
+    at
+}
