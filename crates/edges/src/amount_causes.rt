@@ -5,11 +5,15 @@ use super::hour::Hour;
 use super::hour::POOLING;
 use super::hour::TABLE;
 use super::hour::TITLE;
+use super::hour::answer;
 use super::hour::lists_of;
 use super::hour::record;
+use super::hour::say_change;
 use super::hour::settle;
 use super::hour::terms;
 use super::hour::usual;
+use super::text::say;
+use super::text::say_number;
 
 fn wide() -> Hour {
     usual().told(terms(0, 2, 1_000_000_000, -1_000_000_000))
@@ -21,49 +25,48 @@ fn full() -> Hour {
         .lent(lists_of(128))
 }
 
+fn amount(list: u64, user: usize, value: i64) {
+    say_change(list, user, value);
+    answer(wide().with(list, user, value));
+}
+
+fn amount_in_full(list: u64, user: usize, value: i64) {
+    say(b"128 users, ");
+    say_change(list, user, value);
+    answer(full().with(list, user, value));
+}
+
 fn entries() {
-    settle(b"entry 0", wide().with(ENTRY, 0, 0));
-    settle(b"entry -1", wide().with(ENTRY, 0, -1));
-    settle(b"entry 50000000", wide().with(ENTRY, 0, 50_000_000));
-    settle(b"entry 50000001", wide().with(ENTRY, 0, 50_000_001));
-    settle(b"entry -1 of user 2", wide().with(ENTRY, 2, -1));
-    settle(
-        b"entry 50000001 of user 127",
-        full().with(ENTRY, 127, 50_000_001),
-    );
-    settle(b"entry the most", wide().with(ENTRY, 1, i64::MAX));
-    settle(b"entry the least", wide().with(ENTRY, 1, i64::MIN));
+    amount(ENTRY, 0, 0);
+    amount(ENTRY, 0, -1);
+    amount(ENTRY, 0, 50_000_000);
+    amount(ENTRY, 0, 50_000_001);
+    amount(ENTRY, 2, -1);
+    amount_in_full(ENTRY, 127, 50_000_001);
+    amount(ENTRY, 1, i64::MAX);
+    amount(ENTRY, 1, i64::MIN);
 }
 
 fn exits() {
-    settle(b"exit 0", wide().with(EXIT, 0, 0));
-    settle(b"exit 1", wide().with(EXIT, 0, 1));
-    settle(b"exit -50000000", wide().with(EXIT, 0, -50_000_000));
-    settle(b"exit -50000001", wide().with(EXIT, 0, -50_000_001));
-    settle(b"exit 1 of user 2", wide().with(EXIT, 2, 1));
-    settle(
-        b"exit -50000001 of user 127",
-        full().with(EXIT, 127, -50_000_001),
-    );
-    settle(b"exit the most", wide().with(EXIT, 1, i64::MAX));
-    settle(b"exit the least", wide().with(EXIT, 1, i64::MIN));
+    amount(EXIT, 0, 0);
+    amount(EXIT, 0, 1);
+    amount(EXIT, 0, -50_000_000);
+    amount(EXIT, 0, -50_000_001);
+    amount(EXIT, 2, 1);
+    amount_in_full(EXIT, 127, -50_000_001);
+    amount(EXIT, 1, i64::MAX);
+    amount(EXIT, 1, i64::MIN);
 }
 
 fn titles() {
-    settle(b"title 50000000", wide().with(TITLE, 0, 50_000_000));
-    settle(b"title 50000001", wide().with(TITLE, 0, 50_000_001));
-    settle(b"title -50000000", wide().with(TITLE, 0, -50_000_000));
-    settle(b"title -50000001", wide().with(TITLE, 0, -50_000_001));
-    settle(
-        b"title 50000001 of user 2",
-        wide().with(TITLE, 2, 50_000_001),
-    );
-    settle(
-        b"title -50000001 of user 127",
-        full().with(TITLE, 127, -50_000_001),
-    );
-    settle(b"title the most", wide().with(TITLE, 1, i64::MAX));
-    settle(b"title the least", wide().with(TITLE, 1, i64::MIN));
+    amount(TITLE, 0, 50_000_000);
+    amount(TITLE, 0, 50_000_001);
+    amount(TITLE, 0, -50_000_000);
+    amount(TITLE, 0, -50_000_001);
+    amount(TITLE, 2, 50_000_001);
+    amount_in_full(TITLE, 127, -50_000_001);
+    amount(TITLE, 1, i64::MAX);
+    amount(TITLE, 1, i64::MIN);
 }
 
 // User 0 gives to or takes from user 1; its other amounts and its place add to 0.
@@ -73,33 +76,29 @@ fn pooled(first: i64, second: i64) -> Hour {
         .with(POOLING, 1, second)
 }
 
+fn pool(first: i64, second: i64) {
+    say(b"pooling ");
+    say_number(first);
+    say(b" and ");
+    say_number(second);
+    answer(pooled(first, second));
+}
+
 fn poolings() {
-    settle(
-        b"pooling 100000000, -100000000",
-        pooled(100_000_000, -100_000_000),
-    );
+    pool(100_000_000, -100_000_000);
     settle(
         b"pooling -100000000, 99999986, 14",
         pooled(-100_000_000, 99_999_986).with(POOLING, 2, 14),
     );
-    settle(
-        b"pooling 100000001, -100000001",
-        pooled(100_000_001, -100_000_001),
-    );
-    settle(
-        b"pooling -100000001, 100000001",
-        pooled(-100_000_001, 100_000_001),
-    );
-    settle(
-        b"pooling 100000001 of user 127",
-        full().with(POOLING, 127, 100_000_001),
-    );
-    settle(b"pooling the most", pooled(i64::MAX, -1));
-    settle(b"pooling the least", pooled(i64::MIN, 1));
-    settle(b"pooling 1, 0", pooled(1, 0));
-    settle(b"pooling 0, -1", pooled(0, -1));
-    settle(b"pooling 1, -1", pooled(1, -1));
-    settle(b"pooling 1 of user 127", full().with(POOLING, 127, 1));
+    pool(100_000_001, -100_000_001);
+    pool(-100_000_001, 100_000_001);
+    amount_in_full(POOLING, 127, 100_000_001);
+    pool(i64::MAX, -1);
+    pool(i64::MIN, 1);
+    pool(1, 0);
+    pool(0, -1);
+    pool(1, -1);
+    amount_in_full(POOLING, 127, 1);
     settle(
         b"pooling 100000000, 0 above the positions",
         pooled(100_000_000, 0).with(TITLE, 0, 50),
@@ -110,23 +109,19 @@ fn poolings() {
     );
 }
 
+// User 0's place and exit; its entry and title amount add to 14.
+fn position(place: i64, exit: i64) {
+    say_change(TABLE, 0, place);
+    say(b" and ");
+    say_change(EXIT, 0, exit);
+    answer(wide().with(TABLE, 0, place).with(EXIT, 0, exit));
+}
+
 fn positions() {
-    settle(
-        b"position before 100000000",
-        wide().with(TABLE, 0, 100_000_000).with(EXIT, 0, -14),
-    );
-    settle(
-        b"position before 100000001",
-        wide().with(TABLE, 0, 100_000_000).with(EXIT, 0, -13),
-    );
-    settle(
-        b"position before -100000000",
-        wide().with(TABLE, 0, -99_999_999).with(EXIT, 0, -15),
-    );
-    settle(
-        b"position before -100000001",
-        wide().with(TABLE, 0, -99_999_999).with(EXIT, 0, -16),
-    );
+    position(100_000_000, -14);
+    position(100_000_000, -13);
+    position(-99_999_999, -15);
+    position(-99_999_999, -16);
     settle(
         b"position before 250000000",
         wide().with(TABLE, 0, 100_000_000)

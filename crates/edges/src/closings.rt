@@ -11,11 +11,13 @@ use super::hour::TABLE;
 use super::hour::change_table;
 use super::hour::least;
 use super::hour::record;
+use super::hour::say_change;
 use super::hour::say_day;
 use super::hour::say_first;
 use super::hour::say_refusal;
 use super::text::end_line;
 use super::text::say;
+use super::text::say_count;
 use super::text::say_holds;
 use super::text::say_kept;
 use super::text::say_number;
@@ -115,9 +117,13 @@ fn table_of(closing: Closing) -> [i64; 257] {
     table
 }
 
-// Prints the name, calls, and prints what came back.
 fn close(name: &[u8], closing: Closing) {
     say(name);
+    answer(closing);
+}
+
+// Calls, and prints what came back.
+fn answer(closing: Closing) {
     let mut table = table_of(closing);
     let lent = table;
     let mut quantity = [LENT_QUANTITY; 129];
@@ -154,32 +160,47 @@ fn say_closed(done: ClosingDone) {
 
 // ---- the edges
 
+fn recorded(users: i64, h_hours: i64, h_closed: bool, l_hours: i64, l_closed: bool) {
+    let day = record(users, h_hours, h_closed, l_hours, l_closed);
+    say(b"closing after ");
+    say_day(day);
+    answer(usual().recorded(day));
+}
+
+fn sized(table: usize, quantity: usize, money: usize) {
+    say(b"closing, sizes ");
+    say_count(table as u64);
+    say(b" ");
+    say_count(quantity as u64);
+    say(b" ");
+    say_count(money as u64);
+    answer(usual().lent(table, quantity, money));
+}
+
+fn told(zone: i64, excess_price: i64, shortfall_price: i64) {
+    say(b"closing of zone ");
+    say_number(zone);
+    say(b" at ");
+    say_number(excess_price);
+    say(b" and ");
+    say_number(shortfall_price);
+    answer(usual().told(zone, excess_price, shortfall_price));
+}
+
+fn placed(place: usize, value: i64) {
+    say(b"closing, ");
+    say_change(TABLE, place, value);
+    answer(usual().with(place, value));
+}
+
 fn records() {
     close(b"closing, usual", usual());
-    close(
-        b"closing, no users",
-        usual().recorded(record(0, 24, false, 2, false)),
-    );
-    close(
-        b"closing, 129 users",
-        usual().recorded(record(129, 24, false, 2, false)),
-    );
-    close(
-        b"closing, -1 users",
-        usual().recorded(record(-1, 24, false, 2, false)),
-    );
-    close(
-        b"closing, 25 hours of H",
-        usual().recorded(record(3, 25, false, 2, false)),
-    );
-    close(
-        b"closing, -1 hours of L",
-        usual().recorded(record(3, 24, false, -1, false)),
-    );
-    close(
-        b"closing, L closed after 23",
-        usual().recorded(record(3, 24, false, 23, true)),
-    );
+    recorded(0, 24, false, 2, false);
+    recorded(129, 24, false, 2, false);
+    recorded(-1, 24, false, 2, false);
+    recorded(3, 25, false, 2, false);
+    recorded(3, 24, false, -1, false);
+    recorded(3, 24, false, 23, true);
     close(
         b"closing, no users, table of 255",
         usual()
@@ -189,12 +210,12 @@ fn records() {
 }
 
 fn sizes() {
-    close(b"closing, table of 255", usual().lent(255, 3, 3));
-    close(b"closing, table of 257", usual().lent(257, 3, 3));
-    close(b"closing, quantity one short", usual().lent(256, 2, 3));
-    close(b"closing, quantity one long", usual().lent(256, 4, 3));
-    close(b"closing, money one short", usual().lent(256, 3, 2));
-    close(b"closing, money one long", usual().lent(256, 3, 4));
+    sized(255, 3, 3);
+    sized(257, 3, 3);
+    sized(256, 2, 3);
+    sized(256, 4, 3);
+    sized(256, 3, 2);
+    sized(256, 3, 4);
     close(
         b"closing, money one long, zone 2",
         usual().lent(256, 3, 4).told(2, 0, 0),
@@ -202,21 +223,12 @@ fn sizes() {
 }
 
 fn zones() {
-    close(b"closing, zone -1", usual().told(-1, 0, 0));
-    close(b"closing, zone 2", usual().told(2, 0, 0));
-    close(
-        b"closing, H closed",
-        usual().recorded(record(3, 24, true, 2, false)),
-    );
-    close(
-        b"closing, H with 23 hours",
-        usual().recorded(record(3, 23, false, 2, false)),
-    );
-    close(
-        b"closing, H with no hours",
-        usual().recorded(record(3, 0, false, 2, false)),
-    );
-    close(b"closing, zone 1 with 2 hours", usual().told(1, 0, 0));
+    told(-1, 0, 0);
+    told(2, 0, 0);
+    recorded(3, 24, true, 2, false);
+    recorded(3, 23, false, 2, false);
+    recorded(3, 0, false, 2, false);
+    told(1, 0, 0);
     close(
         b"closing, zone 1 with 24 hours",
         usual()
@@ -236,21 +248,12 @@ fn places() {
             .with(0, -100_000_000)
             .told(0, 10_000_000, -10_000_000),
     );
-    close(b"closing, position 100000001", usual().with(0, 100_000_001));
-    close(
-        b"closing, position -100000001 in L",
-        usual().with(130, -100_000_001),
-    );
-    close(b"closing, place 3 of H not zero", usual().with(3, 1));
-    close(b"closing, place 127 of L not zero", usual().with(255, -1));
-    close(
-        b"closing, L not zero with no hours",
-        usual().recorded(record(3, 24, false, 0, false)),
-    );
-    close(
-        b"closing, L not zero and closed",
-        usual().recorded(record(3, 24, false, 24, true)),
-    );
+    placed(0, 100_000_001);
+    placed(130, -100_000_001);
+    placed(3, 1);
+    placed(255, -1);
+    recorded(3, 24, false, 0, false);
+    recorded(3, 24, false, 24, true);
     close(
         b"closing, L zero and closed",
         usual()
@@ -264,38 +267,14 @@ fn places() {
 }
 
 fn prices() {
-    close(
-        b"closing, excess price 10000000",
-        usual().told(0, 10_000_000, 0),
-    );
-    close(
-        b"closing, excess price 10000001",
-        usual().told(0, 10_000_001, 0),
-    );
-    close(
-        b"closing, excess price -10000000",
-        usual().told(0, -10_000_000, 0),
-    );
-    close(
-        b"closing, excess price -10000001",
-        usual().told(0, -10_000_001, 0),
-    );
-    close(
-        b"closing, shortfall price 10000000",
-        usual().told(0, 0, 10_000_000),
-    );
-    close(
-        b"closing, shortfall price 10000001",
-        usual().told(0, 0, 10_000_001),
-    );
-    close(
-        b"closing, shortfall price -10000000",
-        usual().told(0, 0, -10_000_000),
-    );
-    close(
-        b"closing, shortfall price -10000001",
-        usual().told(0, 0, -10_000_001),
-    );
+    told(0, 10_000_000, 0);
+    told(0, 10_000_001, 0);
+    told(0, -10_000_000, 0);
+    told(0, -10_000_001, 0);
+    told(0, 0, 10_000_000);
+    told(0, 0, 10_000_001);
+    told(0, 0, -10_000_000);
+    told(0, 0, -10_000_001);
 }
 
 pub fn edges() {

@@ -143,6 +143,14 @@ fn read(name: &[u8], file: &[u8]) {
     read_into(name, file, sizes);
 }
 
+// A file of the header and these lines.
+fn body(name: &[u8], lines: &[u8]) {
+    let mut file = [0u8; 4096];
+    let at = put_all(&mut file, 0, b"h,z,g,EEA,XEA,NCTTN,IPT\r\n");
+    let end = put_all(&mut file, at, lines);
+    read_buffer(name, &file, end);
+}
+
 fn sized(name: &[u8], entries: usize, exits: usize, titles: usize, poolings: usize) {
     let sizes = Sizes {
         entries,
@@ -188,130 +196,58 @@ fn headers() {
 }
 
 fn forms() {
-    read(b"empty line", b"h,z,g,EEA,XEA,NCTTN,IPT\r\n\r\n");
-    read(b"six fields", b"h,z,g,EEA,XEA,NCTTN,IPT\r\n1,H,0,0,0,0\r\n");
-    read(
-        b"eight fields",
-        b"h,z,g,EEA,XEA,NCTTN,IPT\r\n1,H,0,0,0,0,0,0\r\n",
-    );
-    read(
-        b"quote mark",
-        b"h,z,g,EEA,XEA,NCTTN,IPT\r\n1,\"H\",0,0,0,0,0\r\n",
-    );
-    read(
-        b"stray CR",
-        b"h,z,g,EEA,XEA,NCTTN,IPT\r\n1,H,0,0,0,0\r,0\r\n",
-    );
-    read(
-        b"stray LF",
-        b"h,z,g,EEA,XEA,NCTTN,IPT\r\n1,H,0,0,0,0,0\n1,H,1,0,0,0,0\r\n",
-    );
-    read(
-        b"CR at the end",
-        b"h,z,g,EEA,XEA,NCTTN,IPT\r\n1,H,0,0,0,0,0\r",
-    );
-    read(
-        b"empty second line",
-        b"h,z,g,EEA,XEA,NCTTN,IPT\r\n1,H,0,0,0,0,0\r\n\r\n",
-    );
-    read(
-        b"form before field",
-        b"h,z,g,EEA,XEA,NCTTN,IPT\r\n1,G,5,0,0,0\r\n",
-    );
-    read(
-        b"last line without CR LF",
-        b"h,z,g,EEA,XEA,NCTTN,IPT\r\n1,H,0,5,-6,7,-8",
-    );
+    body(b"empty line", b"\r\n");
+    body(b"six fields", b"1,H,0,0,0,0\r\n");
+    body(b"eight fields", b"1,H,0,0,0,0,0,0\r\n");
+    body(b"quote mark", b"1,\"H\",0,0,0,0,0\r\n");
+    body(b"stray CR", b"1,H,0,0,0,0\r,0\r\n");
+    body(b"stray LF", b"1,H,0,0,0,0,0\n1,H,1,0,0,0,0\r\n");
+    body(b"CR at the end", b"1,H,0,0,0,0,0\r");
+    body(b"empty second line", b"1,H,0,0,0,0,0\r\n\r\n");
+    body(b"form before field", b"1,G,5,0,0,0\r\n");
+    body(b"last line without CR LF", b"1,H,0,5,-6,7,-8");
 }
 
 fn numbers() {
-    read(
-        b"leading zero",
-        b"h,z,g,EEA,XEA,NCTTN,IPT\r\n1,H,0,01,0,0,0\r\n",
-    );
-    read(
-        b"minus zero",
-        b"h,z,g,EEA,XEA,NCTTN,IPT\r\n1,H,0,0,-0,0,0\r\n",
-    );
-    read(
-        b"minus alone",
-        b"h,z,g,EEA,XEA,NCTTN,IPT\r\n1,H,0,0,-,0,0\r\n",
-    );
-    read(
-        b"plus sign",
-        b"h,z,g,EEA,XEA,NCTTN,IPT\r\n1,H,0,+1,0,0,0\r\n",
-    );
-    read(b"no digit", b"h,z,g,EEA,XEA,NCTTN,IPT\r\n1,H,0,0,0,0,\r\n");
-    read(b"space", b"h,z,g,EEA,XEA,NCTTN,IPT\r\n1,H,0, 1,0,0,0\r\n");
-    read(
-        b"ten digits",
-        b"h,z,g,EEA,XEA,NCTTN,IPT\r\n1,H,0,1000000000,0,0,0\r\n",
-    );
-    read(
-        b"ten digits below zero",
-        b"h,z,g,EEA,XEA,NCTTN,IPT\r\n1,H,0,0,0,0,-1000000000\r\n",
-    );
-    read(
+    body(b"leading zero", b"1,H,0,01,0,0,0\r\n");
+    body(b"minus zero", b"1,H,0,0,-0,0,0\r\n");
+    body(b"minus alone", b"1,H,0,0,-,0,0\r\n");
+    body(b"plus sign", b"1,H,0,+1,0,0,0\r\n");
+    body(b"no digit", b"1,H,0,0,0,0,\r\n");
+    body(b"space", b"1,H,0, 1,0,0,0\r\n");
+    body(b"ten digits", b"1,H,0,1000000000,0,0,0\r\n");
+    body(b"ten digits below zero", b"1,H,0,0,0,0,-1000000000\r\n");
+    body(
         b"nine digits",
-        b"h,z,g,EEA,XEA,NCTTN,IPT\r\n1,H,0,999999999,-999999999,100000000,-100000000\r\n",
-    );
-    read(
-        b"h below zero",
-        b"h,z,g,EEA,XEA,NCTTN,IPT\r\n-1,H,0,0,0,0,0\r\n",
-    );
-    read(
-        b"g below zero",
-        b"h,z,g,EEA,XEA,NCTTN,IPT\r\n1,H,-1,0,0,0,0\r\n",
-    );
-    read(b"zone G", b"h,z,g,EEA,XEA,NCTTN,IPT\r\n1,G,0,0,0,0,0\r\n");
-    read(b"zone h", b"h,z,g,EEA,XEA,NCTTN,IPT\r\n1,h,0,0,0,0,0\r\n");
-    read(
-        b"zone of no letter",
-        b"h,z,g,EEA,XEA,NCTTN,IPT\r\n1,,0,0,0,0,0\r\n",
-    );
-    read(
-        b"zone of two letters",
-        b"h,z,g,EEA,XEA,NCTTN,IPT\r\n1,HL,0,0,0,0,0\r\n",
-    );
-    read(
-        b"field before place",
-        b"h,z,g,EEA,XEA,NCTTN,IPT\r\n1,H,7,x,0,0,0\r\n",
+        b"1,H,0,999999999,-999999999,100000000,-100000000\r\n",
     );
 }
 
+fn first_fields() {
+    body(b"h below zero", b"-1,H,0,0,0,0,0\r\n");
+    body(b"g below zero", b"1,H,-1,0,0,0,0\r\n");
+    body(b"zone G", b"1,G,0,0,0,0,0\r\n");
+    body(b"zone h", b"1,h,0,0,0,0,0\r\n");
+    body(b"zone of no letter", b"1,,0,0,0,0,0\r\n");
+    body(b"zone of two letters", b"1,HL,0,0,0,0,0\r\n");
+    body(b"field before place", b"1,H,7,x,0,0,0\r\n");
+}
+
 fn places() {
-    read(
-        b"h of nine digits, zone L",
-        b"h,z,g,EEA,XEA,NCTTN,IPT\r\n999999999,L,0,0,0,0,0\r\n",
-    );
-    read(
-        b"h 0, two lines",
-        b"h,z,g,EEA,XEA,NCTTN,IPT\r\n0,L,0,0,0,0,0\r\n0,L,1,0,0,0,0\r\n",
-    );
-    read(
-        b"h differs",
-        b"h,z,g,EEA,XEA,NCTTN,IPT\r\n1,H,0,0,0,0,0\r\n2,H,1,0,0,0,0\r\n",
-    );
-    read(
-        b"z differs",
-        b"h,z,g,EEA,XEA,NCTTN,IPT\r\n1,H,0,0,0,0,0\r\n1,L,1,0,0,0,0\r\n",
-    );
-    read(b"g from 1", b"h,z,g,EEA,XEA,NCTTN,IPT\r\n1,H,1,0,0,0,0\r\n");
-    read(
-        b"g twice",
-        b"h,z,g,EEA,XEA,NCTTN,IPT\r\n1,H,0,0,0,0,0\r\n1,H,0,0,0,0,0\r\n",
-    );
-    read(
-        b"g skips",
-        b"h,z,g,EEA,XEA,NCTTN,IPT\r\n1,H,0,0,0,0,0\r\n1,H,2,0,0,0,0\r\n",
-    );
-    read(
+    body(b"h of nine digits, zone L", b"999999999,L,0,0,0,0,0\r\n");
+    body(b"h 0, two lines", b"0,L,0,0,0,0,0\r\n0,L,1,0,0,0,0\r\n");
+    body(b"h differs", b"1,H,0,0,0,0,0\r\n2,H,1,0,0,0,0\r\n");
+    body(b"z differs", b"1,H,0,0,0,0,0\r\n1,L,1,0,0,0,0\r\n");
+    body(b"g from 1", b"1,H,1,0,0,0,0\r\n");
+    body(b"g twice", b"1,H,0,0,0,0,0\r\n1,H,0,0,0,0,0\r\n");
+    body(b"g skips", b"1,H,0,0,0,0,0\r\n1,H,2,0,0,0,0\r\n");
+    body(
         b"place of line 1 before form of line 2",
-        b"h,z,g,EEA,XEA,NCTTN,IPT\r\n1,H,1,0,0,0,0\r\n1,H\r\n",
+        b"1,H,1,0,0,0,0\r\n1,H\r\n",
     );
-    read(
+    body(
         b"field of line 1 before form of line 2",
-        b"h,z,g,EEA,XEA,NCTTN,IPT\r\n1,X,0,0,0,0,0\r\n1,H\r\n",
+        b"1,X,0,0,0,0,0\r\n1,H\r\n",
     );
 }
 
@@ -395,6 +331,7 @@ pub fn edges() {
     headers();
     forms();
     numbers();
+    first_fields();
     places();
     long_files();
 }

@@ -1,4 +1,4 @@
-// One call of `settle_hour`: what is lent to it, and the line that says what came back.
+// One call of `settle_hour`: what is lent to it, and the line that says what came back. (The four lists of amounts are lent as `&`: no call can change them.)
 ghost use Prim.Native.Nat.{_≤_};
 use super::compare::all_are;
 use super::compare::all_scratch;
@@ -277,9 +277,13 @@ pub fn call(
     )
 }
 
-// Prints the name, calls, and prints what came back.
 pub fn settle(name: &[u8], hour: Hour) {
     say(name);
+    answer(hour);
+}
+
+// Calls, and prints what came back.
+pub fn answer(hour: Hour) {
     let mut table = table_of(hour);
     let lent = table;
     let entry = list_of(hour, ENTRY, 10, 20, 30);
@@ -289,7 +293,7 @@ pub fn settle(name: &[u8], hour: Hour) {
     let mut quantity = [LENT_QUANTITY; 129];
     let mut money = [LENT_MONEY; 129];
     let mut scratch = [LENT_SCRATCH; 129];
-    let answer = call(
+    match call(
         hour,
         &mut table,
         &entry,
@@ -299,14 +303,11 @@ pub fn settle(name: &[u8], hour: Hour) {
         &mut quantity,
         &mut money,
         &mut scratch,
-    );
-    match answer {
+    ) {
         HourAnswer::Refused(refusal) => {
             say_refusal(refusal, hour.day);
             say_kept(b"table", same_table(&table, &lent));
-            say_kept(b"quantity", all_are(&quantity, LENT_QUANTITY));
-            say_kept(b"money", all_are(&money, LENT_MONEY));
-            say_kept(b"scratch", all_scratch(&scratch, LENT_SCRATCH));
+            say_untouched(&quantity, &money, &scratch);
         }
         HourAnswer::Done(done) => {
             let users = integers::natural(hour.day.users);
@@ -328,6 +329,26 @@ pub fn settle(name: &[u8], hour: Hour) {
 }
 
 // ---- the lines
+
+// The name of a list, a value in it, and whose it is.
+pub fn say_change(list: u64, place: usize, value: i64) {
+    match list {
+        TABLE => say(b"table "),
+        ENTRY => say(b"entry "),
+        EXIT => say(b"exit "),
+        TITLE => say(b"title "),
+        _ => say(b"pooling "),
+    }
+    say_number(value);
+    say(b" at ");
+    say_count(place as u64);
+}
+
+fn say_untouched(quantity: &[i64; 129], money: &[i64; 129], scratch: &[u64; 129]) {
+    say_kept(b"quantity", all_are(quantity, LENT_QUANTITY));
+    say_kept(b"money", all_are(money, LENT_MONEY));
+    say_kept(b"scratch", all_scratch(scratch, LENT_SCRATCH));
+}
 
 pub fn say_refusal(refusal: Refusal, given: Day) {
     say(b": refused ");

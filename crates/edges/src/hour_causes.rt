@@ -2,79 +2,53 @@
 use super::hour::Hour;
 use super::hour::Lengths;
 use super::hour::TABLE;
+use super::hour::answer;
 use super::hour::lists_of;
 use super::hour::record;
+use super::hour::say_day;
 use super::hour::settle;
 use super::hour::terms;
 use super::hour::usual;
+use super::text::say;
+use super::text::say_count;
+use super::text::say_number;
 
-fn users() {
-    settle(b"hour, usual", usual());
-    settle(
-        b"hour, -1 users",
+fn with_users(users: i64, places: usize) {
+    say(b"hour of ");
+    say_number(users);
+    say(b" users");
+    answer(
         usual()
-            .recorded(record(-1, 1, false, 2, false))
-            .lent(lists_of(0)),
-    );
-    settle(
-        b"hour, 0 users",
-        usual()
-            .recorded(record(0, 1, false, 2, false))
-            .lent(lists_of(0)),
-    );
-    settle(
-        b"hour, 1 users",
-        usual()
-            .recorded(record(1, 1, false, 2, false))
-            .lent(lists_of(1)),
-    );
-    settle(
-        b"hour, 128 users",
-        usual()
-            .recorded(record(128, 1, false, 2, false))
-            .lent(lists_of(128)),
-    );
-    settle(
-        b"hour, 129 users",
-        usual()
-            .recorded(record(129, 1, false, 2, false))
-            .lent(lists_of(129)),
+            .recorded(record(users, 1, false, 2, false))
+            .lent(lists_of(places)),
     );
 }
 
+fn users() {
+    settle(b"hour, usual", usual());
+    with_users(-1, 0);
+    with_users(0, 0);
+    with_users(1, 1);
+    with_users(128, 128);
+    with_users(129, 129);
+}
+
+fn recorded(h_hours: i64, h_closed: bool, l_hours: i64, l_closed: bool) {
+    let day = record(3, h_hours, h_closed, l_hours, l_closed);
+    say(b"hour after ");
+    say_day(day);
+    answer(usual().recorded(day));
+}
+
 fn records() {
-    settle(
-        b"hour, -1 hours of H",
-        usual().recorded(record(3, -1, false, 2, false)),
-    );
-    settle(
-        b"hour, 25 hours of H",
-        usual().recorded(record(3, 25, false, 2, false)),
-    );
-    settle(
-        b"hour, -1 hours of L",
-        usual().recorded(record(3, 1, false, -1, false)),
-    );
-    settle(
-        b"hour, 25 hours of L",
-        usual().recorded(record(3, 1, false, 25, false)),
-    );
-    settle(
-        b"hour, 24 hours of L",
-        usual().recorded(record(3, 1, false, 24, false)),
-    );
-    settle(
-        b"hour, H closed after 23",
-        usual().recorded(record(3, 23, true, 2, false)),
-    );
-    settle(
-        b"hour, L closed after 23",
-        usual().recorded(record(3, 1, false, 23, true)),
-    );
-    settle(
-        b"hour, L closed after 0",
-        usual().recorded(record(3, 1, false, 0, true)),
-    );
+    recorded(-1, false, 2, false);
+    recorded(25, false, 2, false);
+    recorded(1, false, -1, false);
+    recorded(1, false, 25, false);
+    recorded(1, false, 24, false);
+    recorded(23, true, 2, false);
+    recorded(1, false, 23, true);
+    recorded(1, false, 0, true);
     settle(
         b"hour, 0 users, table of 255",
         usual()
@@ -119,10 +93,16 @@ fn one_of(list: u64, places: usize) -> Lengths {
     sizes
 }
 
+fn of_table(places: usize) {
+    say(b"hour, table of ");
+    say_count(places as u64);
+    answer(usual().lent(table_of(places)));
+}
+
 fn tables() {
-    settle(b"hour, table of 0", usual().lent(table_of(0)));
-    settle(b"hour, table of 255", usual().lent(table_of(255)));
-    settle(b"hour, table of 257", usual().lent(table_of(257)));
+    of_table(0);
+    of_table(255);
+    of_table(257);
     settle(b"hour, lists of 2", usual().lent(lists_of(2)));
     settle(b"hour, lists of 4", usual().lent(lists_of(4)));
     settle(
@@ -131,32 +111,45 @@ fn tables() {
     );
 }
 
+fn one_list(list: u64, places: usize) {
+    say(b"hour, list ");
+    say_count(list);
+    say(b" of ");
+    say_count(places as u64);
+    answer(usual().lent(one_of(list, places)));
+}
+
 fn lists() {
-    settle(b"hour, entry one short", usual().lent(one_of(0, 2)));
-    settle(b"hour, entry one long", usual().lent(one_of(0, 4)));
-    settle(b"hour, exit one short", usual().lent(one_of(1, 2)));
-    settle(b"hour, exit one long", usual().lent(one_of(1, 4)));
-    settle(b"hour, title one short", usual().lent(one_of(2, 2)));
-    settle(b"hour, title one long", usual().lent(one_of(2, 4)));
-    settle(b"hour, pooling one short", usual().lent(one_of(3, 2)));
-    settle(b"hour, pooling one long", usual().lent(one_of(3, 4)));
-    settle(b"hour, quantity one short", usual().lent(one_of(4, 2)));
-    settle(b"hour, quantity one long", usual().lent(one_of(4, 4)));
-    settle(b"hour, money one short", usual().lent(one_of(5, 2)));
-    settle(b"hour, money one long", usual().lent(one_of(5, 4)));
-    settle(b"hour, scratch one short", usual().lent(one_of(6, 2)));
-    settle(b"hour, scratch one long", usual().lent(one_of(6, 4)));
+    one_list(0, 2);
+    one_list(0, 4);
+    one_list(1, 2);
+    one_list(1, 4);
+    one_list(2, 2);
+    one_list(2, 4);
+    one_list(3, 2);
+    one_list(3, 4);
+    one_list(4, 2);
+    one_list(4, 4);
+    one_list(5, 2);
+    one_list(5, 4);
+    one_list(6, 2);
+    one_list(6, 4);
+}
+
+fn of_zone(zone: i64, hour: i64) {
+    say(b"hour ");
+    say_number(hour);
+    say(b" of zone ");
+    say_number(zone);
+    answer(usual().told(terms(zone, hour, 1000, -1000)));
 }
 
 fn zones() {
-    settle(b"hour, zone -1", usual().told(terms(-1, 2, 1000, -1000)));
-    settle(b"hour, zone 0", usual().told(terms(0, 2, 1000, -1000)));
-    settle(b"hour, zone 1", usual().told(terms(1, 3, 1000, -1000)));
-    settle(b"hour, zone 2", usual().told(terms(2, 3, 1000, -1000)));
-    settle(
-        b"hour, zone 2 in hour 0",
-        usual().told(terms(2, 0, 1000, -1000)),
-    );
+    of_zone(-1, 2);
+    of_zone(0, 2);
+    of_zone(1, 3);
+    of_zone(2, 3);
+    of_zone(2, 0);
     settle(
         b"hour, H closed",
         after(24, true).told(terms(0, 25, 1000, -1000)),
@@ -180,63 +173,29 @@ fn after(hours: i64, closed: bool) -> Hour {
         .with(TABLE, 0, 0)
 }
 
+fn hour_after(hours: i64, hour: i64) {
+    say(b"hour ");
+    say_number(hour);
+    say(b" after ");
+    say_number(hours);
+    answer(after(hours, false).told(terms(0, hour, 1000, -1000)));
+}
+
 fn hours() {
-    settle(
-        b"hour 0 after 0",
-        after(0, false).told(terms(0, 0, 1000, -1000)),
-    );
-    settle(
-        b"hour 1 after 0",
-        after(0, false).told(terms(0, 1, 1000, -1000)),
-    );
-    settle(
-        b"hour 2 after 0",
-        after(0, false).told(terms(0, 2, 1000, -1000)),
-    );
-    settle(
-        b"hour -1 after 0",
-        after(0, false).told(terms(0, -1, 1000, -1000)),
-    );
-    settle(
-        b"hour 1 after 1",
-        after(1, false).told(terms(0, 1, 1000, -1000)),
-    );
-    settle(
-        b"hour 3 of H after 1, as L has it",
-        after(1, false).told(terms(0, 3, 1000, -1000)),
-    );
-    settle(
-        b"hour 23 after 23",
-        after(23, false).told(terms(0, 23, 1000, -1000)),
-    );
-    settle(
-        b"hour 24 after 23",
-        after(23, false).told(terms(0, 24, 1000, -1000)),
-    );
-    settle(
-        b"hour 25 after 23",
-        after(23, false).told(terms(0, 25, 1000, -1000)),
-    );
-    settle(
-        b"hour 24 after 24",
-        after(24, false).told(terms(0, 24, 1000, -1000)),
-    );
-    settle(
-        b"hour 25 after 24",
-        after(24, false).told(terms(0, 25, 1000, -1000)),
-    );
-    settle(
-        b"hour least after 0",
-        after(0, false).told(terms(0, i64::MIN, 1000, -1000)),
-    );
-    settle(
-        b"hour most after 24",
-        after(24, false).told(terms(0, i64::MAX, 1000, -1000)),
-    );
-    settle(
-        b"hour 2 after 0, place not zero",
-        usual().recorded(record(3, 0, false, 2, false)),
-    );
+    hour_after(0, 0);
+    hour_after(0, 1);
+    hour_after(0, 2);
+    hour_after(0, -1);
+    hour_after(1, 1);
+    hour_after(1, 3);
+    hour_after(23, 23);
+    hour_after(23, 24);
+    hour_after(23, 25);
+    hour_after(24, 24);
+    hour_after(24, 25);
+    hour_after(0, i64::MIN);
+    hour_after(24, i64::MAX);
+    recorded(0, false, 2, false);
 }
 
 pub fn edges() {

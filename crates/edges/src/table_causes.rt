@@ -2,11 +2,26 @@
 use super::hour::EXIT;
 use super::hour::Hour;
 use super::hour::TABLE;
+use super::hour::answer;
 use super::hour::lists_of;
 use super::hour::record;
+use super::hour::say_change;
 use super::hour::settle;
 use super::hour::terms;
 use super::hour::usual;
+use super::text::say;
+use super::text::say_number;
+
+fn placed(place: usize, value: i64) {
+    say_change(TABLE, place, value);
+    answer(usual().with(TABLE, place, value));
+}
+
+fn placed_in_full(place: usize, value: i64) {
+    say(b"128 users, ");
+    say_change(TABLE, place, value);
+    answer(full().with(TABLE, place, value));
+}
 
 fn positions() {
     settle(
@@ -17,64 +32,28 @@ fn positions() {
         b"table, 100000001 in H",
         usual().with(TABLE, 0, 100_000_001).with(EXIT, 0, -14),
     );
-    settle(
-        b"table, -100000000 in H",
-        usual().with(TABLE, 0, -100_000_000),
-    );
-    settle(
-        b"table, -100000001 in H",
-        usual().with(TABLE, 0, -100_000_001),
-    );
-    settle(
-        b"table, 100000000 in L",
-        usual().with(TABLE, 130, 100_000_000),
-    );
-    settle(
-        b"table, 100000001 in L",
-        usual().with(TABLE, 130, 100_000_001),
-    );
-    settle(
-        b"table, -100000000 in L",
-        usual().with(TABLE, 130, -100_000_000),
-    );
-    settle(
-        b"table, -100000001 in L",
-        usual().with(TABLE, 130, -100_000_001),
-    );
-    settle(b"table, the most in H", usual().with(TABLE, 2, i64::MAX));
-    settle(b"table, the least in L", usual().with(TABLE, 128, i64::MIN));
+    placed(0, -100_000_000);
+    placed(0, -100_000_001);
+    placed(130, 100_000_000);
+    placed(130, 100_000_001);
+    placed(130, -100_000_000);
+    placed(130, -100_000_001);
+    placed(2, i64::MAX);
+    placed(128, i64::MIN);
 }
 
 fn beyond() {
-    settle(b"table, user 2 of H not zero", usual().with(TABLE, 2, 1));
-    settle(b"table, place 3 of H not zero", usual().with(TABLE, 3, 1));
-    settle(
-        b"table, place 127 of H not zero",
-        usual().with(TABLE, 127, -1),
-    );
-    settle(b"table, user 2 of L not zero", usual().with(TABLE, 130, 1));
-    settle(b"table, place 3 of L not zero", usual().with(TABLE, 131, 1));
-    settle(
-        b"table, place 127 of L not zero",
-        usual().with(TABLE, 255, -1),
-    );
-    settle(b"table, place 256, not lent", usual().with(TABLE, 256, 1));
-    settle(
-        b"table, place 127 of H, 128 users",
-        full().with(TABLE, 127, -1),
-    );
-    settle(
-        b"table, place 127 of L, 128 users",
-        full().with(TABLE, 255, 1),
-    );
-    settle(
-        b"table, 100000001 at 127 of H, 128 users",
-        full().with(TABLE, 127, 100_000_001),
-    );
-    settle(
-        b"table, -100000001 at 127 of L, 128 users",
-        full().with(TABLE, 255, -100_000_001),
-    );
+    placed(2, 1);
+    placed(3, 1);
+    placed(127, -1);
+    placed(130, 1);
+    placed(131, 1);
+    placed(255, -1);
+    placed(256, 1);
+    placed_in_full(127, -1);
+    placed_in_full(255, 1);
+    placed_in_full(127, 100_000_001);
+    placed_in_full(255, -100_000_001);
 }
 
 // The usual hour of 128 users.
@@ -84,44 +63,38 @@ fn full() -> Hour {
         .lent(lists_of(128))
 }
 
+fn usual_after(h_hours: i64, h_closed: bool, l_hours: i64, l_closed: bool) -> Hour {
+    usual().recorded(record(3, h_hours, h_closed, l_hours, l_closed))
+}
+
 fn idle_zones() {
     settle(
         b"table, H not zero with no hours",
-        usual()
-            .recorded(record(3, 0, false, 2, false))
-            .told(terms(0, 1, 1000, -1000)),
+        usual_after(0, false, 2, false).told(terms(0, 1, 1000, -1000)),
     );
     settle(
         b"table, L not zero with no hours",
-        usual().recorded(record(3, 1, false, 0, false)),
+        usual_after(1, false, 0, false),
     );
     settle(
         b"table, L zero with no hours",
-        usual()
-            .recorded(record(3, 1, false, 0, false))
-            .with(TABLE, 128, 0),
+        usual_after(1, false, 0, false).with(TABLE, 128, 0),
     );
     settle(
         b"table, L not zero and closed",
-        usual().recorded(record(3, 1, false, 24, true)),
+        usual_after(1, false, 24, true),
     );
     settle(
         b"table, L zero and closed",
-        usual()
-            .recorded(record(3, 1, false, 24, true))
-            .with(TABLE, 128, 0),
+        usual_after(1, false, 24, true).with(TABLE, 128, 0),
     );
     settle(
         b"table, H not zero and closed, hour of L",
-        usual()
-            .recorded(record(3, 24, true, 2, false))
-            .told(terms(1, 3, 1000, -1000)),
+        usual_after(24, true, 2, false).told(terms(1, 3, 1000, -1000)),
     );
     settle(
         b"table, H not zero with no hours, hour of L",
-        usual()
-            .recorded(record(3, 0, false, 2, false))
-            .told(terms(1, 3, 1000, -1000)),
+        usual_after(0, false, 2, false).told(terms(1, 3, 1000, -1000)),
     );
     settle(
         b"table, place 3 not zero, threshold too low",
@@ -129,66 +102,59 @@ fn idle_zones() {
     );
 }
 
+fn between(upper: i64, lower: i64) {
+    say(b"thresholds ");
+    say_number(upper);
+    say(b" and ");
+    say_number(lower);
+    answer(usual().told(terms(0, 2, upper, lower)));
+}
+
 fn thresholds() {
-    settle(b"upper threshold 0", usual().told(terms(0, 2, 0, -1000)));
-    settle(b"upper threshold -1", usual().told(terms(0, 2, -1, -1000)));
-    settle(b"upper threshold 60", usual().told(terms(0, 2, 60, -1000)));
-    settle(b"upper threshold 59", usual().told(terms(0, 2, 59, -1000)));
-    settle(
-        b"upper threshold 1000000000",
-        usual().told(terms(0, 2, 1_000_000_000, -1000)),
-    );
-    settle(
-        b"upper threshold 1000000001",
-        usual().told(terms(0, 2, 1_000_000_001, -1000)),
-    );
-    settle(
-        b"upper threshold the most",
-        usual().told(terms(0, 2, i64::MAX, -1000)),
-    );
-    settle(b"lower threshold 0", usual().told(terms(0, 2, 1000, 0)));
-    settle(b"lower threshold 1", usual().told(terms(0, 2, 1000, 1)));
-    settle(
-        b"lower threshold -1000000000",
-        usual().told(terms(0, 2, 1000, -1_000_000_000)),
-    );
-    settle(
-        b"lower threshold -1000000001",
-        usual().told(terms(0, 2, 1000, -1_000_000_001)),
-    );
-    settle(
-        b"lower threshold the least",
-        usual().told(terms(0, 2, 1000, i64::MIN)),
-    );
+    between(0, -1000);
+    between(-1, -1000);
+    between(60, -1000);
+    between(59, -1000);
+    between(1_000_000_000, -1000);
+    between(1_000_000_001, -1000);
+    between(i64::MAX, -1000);
+    between(1000, 0);
+    between(1000, 1);
+    between(1000, -1_000_000_000);
+    between(1000, -1_000_000_001);
+    between(1000, i64::MIN);
 }
 
 // In an excess of 60.
-fn sold() -> Hour {
-    usual().told(terms(0, 2, 0, 0))
+fn sold_at(price: i64) {
+    say(b"excess price ");
+    say_number(price);
+    answer(usual().told(terms(0, 2, 0, 0)).priced(price, 0));
 }
 
 // In a shortfall of 939: user 0 is at -981, the others at 14 and 28.
-fn bought() -> Hour {
-    usual().told(terms(0, 2, 0, 0)).with(EXIT, 0, -1000)
+fn bought_at(price: i64) {
+    say(b"shortfall price ");
+    say_number(price);
+    answer(
+        usual()
+            .told(terms(0, 2, 0, 0))
+            .with(EXIT, 0, -1000)
+            .priced(0, price),
+    );
 }
 
 fn prices() {
-    settle(b"excess price 10000000", sold().priced(10_000_000, 0));
-    settle(b"excess price 10000001", sold().priced(10_000_001, 0));
-    settle(b"excess price -10000000", sold().priced(-10_000_000, 0));
-    settle(b"excess price -10000001", sold().priced(-10_000_001, 0));
-    settle(b"excess price the least", sold().priced(i64::MIN, 0));
-    settle(b"shortfall price 10000000", bought().priced(0, 10_000_000));
-    settle(b"shortfall price 10000001", bought().priced(0, 10_000_001));
-    settle(
-        b"shortfall price -10000000",
-        bought().priced(0, -10_000_000),
-    );
-    settle(
-        b"shortfall price -10000001",
-        bought().priced(0, -10_000_001),
-    );
-    settle(b"shortfall price the most", bought().priced(0, i64::MAX));
+    sold_at(10_000_000);
+    sold_at(10_000_001);
+    sold_at(-10_000_000);
+    sold_at(-10_000_001);
+    sold_at(i64::MIN);
+    bought_at(10_000_000);
+    bought_at(10_000_001);
+    bought_at(-10_000_000);
+    bought_at(-10_000_001);
+    bought_at(i64::MAX);
 }
 
 pub fn edges() {

@@ -31,8 +31,8 @@ use rules::OpenAnswer;
 use rules::Outcome;
 use rules::Side;
 
-// The record, how many of one zone's calls answered what, and for each user the two sums of the conservation rule. `disturbed` counts the calls that changed the
-// other zone's part of the table.
+// The record, how many of one zone's calls answered what, and for each user the two sums of the conservation rule.
+// `disturbed` counts the calls that changed the other zone's part of the table.
 struct Course {
     day: Day,
     within: u64,
