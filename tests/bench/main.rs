@@ -13,7 +13,12 @@ const ROUNDS: usize = 25;
 
 /// An hour 2 of the H zone, from a table that fits.
 struct Input {
+    users: i64,
+    hours_l: i64,
+    closed_l: bool,
     table: Vec<i64>,
+    zone: i64,
+    number: i64,
     hour: made_up::Hour,
 }
 
@@ -27,21 +32,20 @@ struct Lent {
 
 fn library_hour(input: &Input, lent: &mut Lent) -> u64 {
     let terms = input.hour.terms;
-    let none = ZoneDay {
-        hours: 0,
-        closed: false,
-    };
     let day = Day {
-        users: USERS as i64,
+        users: input.users,
         h: ZoneDay {
             hours: 1,
             closed: false,
         },
-        l: none,
+        l: ZoneDay {
+            hours: input.hours_l,
+            closed: input.closed_l,
+        },
     };
     let terms = HourTerms {
-        zone: 0,
-        hour: 2,
+        zone: input.zone,
+        hour: input.number,
         upper: terms.upper,
         lower: terms.lower,
         excess_price: terms.excess_price,
@@ -64,15 +68,15 @@ fn library_hour(input: &Input, lent: &mut Lent) -> u64 {
 
 fn ordinary_hour(input: &Input, lent: &mut Lent) -> u64 {
     let day = ordinary::Day {
-        users: USERS as i64,
-        hours: [1, 0],
-        closed: [false; 2],
+        users: input.users,
+        hours: [1, input.hours_l],
+        closed: [false, input.closed_l],
     };
     let answer = ordinary::settle_hour(
         day,
         &mut lent.table,
-        0,
-        2,
+        input.zone,
+        input.number,
         &input.hour.entry,
         &input.hour.exit,
         &input.hour.title,
@@ -113,29 +117,62 @@ fn compare(name: &str, inputs: &[Input], cause: u64) {
     println!("| {name} | {ours:.0} | {theirs:.0} | {:.2} |", ours / theirs);
 }
 
-fn inputs(random: &mut Random, kind: Kind, change: fn(usize, &mut Input)) -> Vec<Input> {
+fn inputs(random: &mut Random, kind: Kind, change: fn(&mut Input)) -> Vec<Input> {
     (0..INPUTS)
-        .map(|number| {
+        .map(|_| {
             let mut table = vec![0; 256];
             table[..USERS].fill_with(|| random.between(-1_000_000, 1_000_000));
             let hour = made_up::hour(random, USERS, kind, &table[..128]);
-            let mut input = Input { table, hour };
-            change(number, &mut input);
+            let mut input = Input {
+                users: USERS as i64,
+                hours_l: 0,
+                closed_l: false,
+                table,
+                zone: 0,
+                number: 2,
+                hour,
+            };
+            change(&mut input);
             input
         })
         .collect()
 }
 
-/// The last user's amount in one of the four lists, in turn, out of its range.
-fn spoil_last(number: usize, input: &mut Input) {
+/// A change that spoils an hour, by name, and the cause that it is refused by. Where a list or the table is spoilt, it is at the last place: the dearest.
+type Spoilt = (&'static str, fn(&mut Input), u64);
+
+const SPOILT: [Spoilt; 14] = [
+    ("2, record", |input| input.users = 129, 2),
+    ("3, pooling list too short", |input| input.hour.pooling.truncate(USERS - 1), 3),
+    ("4, zone", |input| input.zone = 2, 4),
+    ("5, zone closed", close_l, 5),
+    ("6, hour", |input| input.number = 3, 6),
+    ("7, last place of the H zone", |input| input.table[127] = 100_000_001, 7),
+    ("7, last place of the L zone", |input| input.table[255] = 1, 7),
+    ("8, lower threshold", |input| input.hour.terms.lower = 1, 8),
+    ("9, last entry", |input| input.hour.entry[USERS - 1] = 50_000_001, 9),
+    ("9, last exit", |input| input.hour.exit[USERS - 1] = 1, 9),
+    ("9, last title amount", |input| input.hour.title[USERS - 1] = 50_000_001, 9),
+    ("9, last pooling amount", |input| input.hour.pooling[USERS - 1] = 100_000_001, 9),
+    ("10, pooling sum", |input| input.hour.pooling[0] += 1, 10),
+    ("11, last position before", leave_range, 11),
+];
+
+/// The hour is one of the L zone, which is closed.
+fn close_l(input: &mut Input) {
+    input.zone = 1;
+    input.hours_l = 24;
+    input.closed_l = true;
+}
+
+/// The last user's position before settlement is one too many, and every amount is in its range.
+fn leave_range(input: &mut Input) {
     let hour = &mut input.hour;
-    let list = match number % 4 {
-        0 => &mut hour.entry,
-        1 => &mut hour.exit,
-        2 => &mut hour.title,
-        _ => &mut hour.pooling,
-    };
-    list[USERS - 1] = 100_000_001;
+    input.table[USERS - 1] = 100_000_000;
+    hour.entry[USERS - 1] = 1;
+    hour.exit[USERS - 1] = 0;
+    hour.title[USERS - 1] = 0;
+    hour.pooling.fill(0);
 }
 
 fn main() {
@@ -143,18 +180,11 @@ fn main() {
     println!("| kind of hour, 128 users | library, ns | ordinary Rust, ns | ratio |");
     println!("|---|---|---|---|");
     for kind in Kind::ALL {
-        let inputs = inputs(&mut random, kind, |_, _| ());
+        let inputs = inputs(&mut random, kind, |_| ());
         compare(&format!("{kind:?}"), &inputs, 0);
     }
-    let refused: [(&str, fn(usize, &mut Input), u64); 5] = [
-        ("refused by 3", |_, input| input.hour.pooling.truncate(USERS - 1), 3),
-        ("refused by 7, last place", |_, input| input.table[255] = 1, 7),
-        ("refused by 8", |_, input| input.hour.terms.lower = 1, 8),
-        ("refused by 9, last user of any list", spoil_last, 9),
-        ("refused by 10", |_, input| input.hour.pooling[0] += 1, 10),
-    ];
-    for (name, change, cause) in refused {
+    for (name, change, cause) in SPOILT {
         let inputs = inputs(&mut random, Kind::Excess, change);
-        compare(name, &inputs, cause);
+        compare(&format!("refused by {name}"), &inputs, cause);
     }
 }

@@ -1,5 +1,4 @@
 -- Why the stages are the causes of the rules, and why each stage may count on those before it. Assumes nothing.
 pub mod Records
 mod Tables
-mod Users
 mod Stages

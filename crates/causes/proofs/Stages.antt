@@ -5,22 +5,21 @@ use mathlib.Core.List.{List}
 use Prim.Native.Nat.{ℕ, zero, suc}
 use native.Mathlib.Omega.{arith}
 use lib.Dec.{lit<, eqb}
-use lib.IntN.{ℤ, pos}
+use lib.IntN.{ℤ}
 use lib.ListN.{length}
-use Rattle.integers.specs.Lists.{every}
 use Rattle.integers.proofs.Tests.{and-true}
 use Rattle.rules.specs.declared.Day.{Day}
-use Rattle.rules.specs.Limits.{zoneFit, positionFit}
+use Rattle.rules.specs.Limits.{zoneFit}
 use Rattle.rules.specs.Days.{users, part}
 use Rattle.rules.specs.Hours.{Hour, Closing}
 use Rattle.rules.specs.Refusals.{unless, _then_}
-use Rattle.rules.specs.Causes.{dayFit, tableLong, listLong, scratchLong, hourLong, closingLong, hourNext, allDone, positionsFit, tableFit, pricesFit, termsFit, amountsFit, poolingAdds, beforeFit, hourCause, closingCause}
+use Rattle.rules.specs.Causes.{dayFit, tableLong, listLong, scratchLong, hourLong, closingLong, hourNext, allDone, pricesFit, termsFit, amountsFit, poolingAdds, beforeFit, hourCause, closingCause}
 use Rattle.rules.proofs.Refusing.{unless-none, then-none}
-use Rattle.rules.proofs.Zones.{Zone, H, L, zone-of, length-part}
-use Rattle.rules.proofs.Accepted.{users-of, table-long, hour-lengths}
+use Rattle.rules.proofs.Zones.{zone-of, length-part}
+use Rattle.rules.proofs.Accepted.{users-of, table-long, hour-lengths, part-fits}
+use Rattle.positions.specs.Before.{allFit}
 use Rattle.positions.proofs.Before.{before-is}
-use Rattle.causes.specs.Steps.{amountsLong, filledLong, formCause, tableCause, amountsCause, allFit, Tabled, LentTable}
-use Rattle.causes.proofs.Tables.{parts-fit}
+use Rattle.causes.specs.Steps.{amountsLong, filledLong, formCause, tableCause, amountsCause, Tabled, LentTable}
 
 -- ---- chains of causes
 then-assoc : (a b c : ℕ) → ((a then b) then c) ≡ (a then (b then c))
@@ -54,18 +53,6 @@ form-zone d zone long timely k = unless-none _ _ (lit< tt) (then-none (then-none
 
 tabled-of : (d : Day) (t : List ℤ) → dayFit d ≡ true → tableLong t ≡ true → Tabled d t
 tabled-of d t day long = record { few = users-of d day .1; long = table-long t long }
-
--- ---- a table that fits has its positions in range, part by part
-part-in-range : (d : Day) (t : List ℤ) → length t ≡ 256 → tableFit d t ≡ true → {zone : ℤ} → Zone zone → every positionFit (part zone t) ≡ true
-unfolding tableFit
-part-in-range d t long fit z = go z
-  where
-    held : (every positionFit (part (pos 0) t) ≡ true) × (every positionFit (part (pos 1) t) ≡ true)
-    held = and-true (every positionFit (part (pos 0) t)) (every positionFit (part (pos 1) t)) (sym (parts-fit d t long) ∙ and-true (positionsFit t) _ fit .0)
-
-    go : {zone : ℤ} → Zone zone → every positionFit (part zone t) ≡ true
-    go H = held .0
-    go L = held .1
 
 -- ---- an hour
 -- the lengths as the call tests them
@@ -131,7 +118,7 @@ module _ (d : Day) (t : List ℤ) (g : Hour) where
                 poolings = omega (arith, l .entries, l .poolings);
                 few = omega (arith, l .entries, few);
                 room = omega (arith, l .entries, few, length-part t long zone);
-                positions = part-in-range d t long fit zone;
+                positions = part-fits (g .terms .zone) d t fit;
               };
             }
 

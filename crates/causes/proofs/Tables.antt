@@ -1,21 +1,21 @@
 -- Cause 7 by its live places: the same test, with each place looked at once; and zeros found by `or`. Assumes nothing.
 use mathlib.Core.Path.{_≡_, refl, sym, ap, ap₂, _∙_}
-use mathlib.Core.Bool.{Bool, true, false, not, cond, _&&_, _||_, and-true, and-false, and-self, and-assoc}
-use mathlib.Core.List.{List, [], _∷_, _++_}
+use mathlib.Core.Bool.{Bool, true, false, not, cond, _&&_, _||_, and-true, and-false, and-self}
+use mathlib.Core.List.{List, [], _∷_}
 use Prim.Native.Nat.{ℕ, zero, suc, _+_, _-_, _<_}
 use native.Mathlib.Omega.{arith}
-use native.Mathlib.Numerals.{add-one}
 use borrow.Author.Tests.{eqb-true, eqb-false, eq-eqb, ne-eqb}
 use lib.Bits.{bitOr, or-add-and, and-le-l, and-le-r}
 use lib.Dec.{eqb}
 use lib.IntN.{ℤ, pos, negsuc}
 use lib.ListN.{length, getD, take, drop, length-drop, take-append-drop}
-use lib.Seq.{take-all, take-suc}
+use lib.Seq.{take-all}
 use mir.Syntax.{w64}
 use mir.Val.{SFits, ofZ}
 use Rattle.integers.specs.Ranges.{isZero}
 use Rattle.integers.specs.Lists.{every}
 use Rattle.integers.proofs.Machine.{zero-bits}
+use Rattle.integers.proofs.Passes.{every-append, every-step}
 use Rattle.rules.specs.declared.Day.{Day}
 use Rattle.rules.specs.Limits.{positionFit}
 use Rattle.rules.specs.Days.{users, hoursDone, isClosed, firstPlace, part}
@@ -24,16 +24,6 @@ use Rattle.causes.specs.Steps.{livePlaces, partFit}
 
 -- ---- tests of every element
 module _ {A : Type 0} (p : A → Bool) where
-  pub every-append : (xs ys : List A) → every p (xs ++ ys) ≡ (every p xs && every p ys)
-  unfolding every
-  every-append [] ys = refl
-  every-append (x ∷ xs) ys = ap (λ (b : Bool). p x && b) (every-append xs ys) ∙ sym (and-assoc (p x) (every p xs) (every p ys))
-
-  -- a loop's step: one element more
-  pub every-step : (z : A) (xs : List A) (i : ℕ) → i < length xs → every p (take (i + 1) xs) ≡ (every p (take i xs) && p (getD xs i z))
-  unfolding every
-  every-step z xs i h = rw (add-one, take-suc xs i z) (every-append (take i xs) (getD xs i z ∷ []) ∙ ap (λ (b : Bool). every p (take i xs) && b) (and-true (p (getD xs i z))))
-
   -- what holds of every element holds of the last
   every-rest : (n : ℕ) (xs : List A) → (every p (drop n xs) && every p xs) ≡ every p xs
   unfolding every
@@ -82,7 +72,7 @@ module _ (d : Day) (t : List ℤ) where
       go true = every-rest isZero (users d) (part zone t)
       go false = and-true _
 
-  pub parts-fit : length t ≡ 256 → positionsFit t ≡ (every positionFit (part (pos 0) t) && every positionFit (part (pos 1) t))
+  parts-fit : length t ≡ 256 → positionsFit t ≡ (every positionFit (part (pos 0) t) && every positionFit (part (pos 1) t))
   unfolding positionsFit part firstPlace
   parts-fit long =
       rw (take-all 128 (drop 128 t) (simp length-drop (omega arith)))

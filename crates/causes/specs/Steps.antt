@@ -1,7 +1,7 @@
 -- The causes in stages, and what each stage counts on: what the private functions promise each other. Who believes the rules need not believe these: the public
 -- contracts cite none of them. Assumes nothing.
 use mathlib.Core.Path.{_≡_}
-use mathlib.Core.Bool.{Bool, true, not, cond, _&&_, _||_}
+use mathlib.Core.Bool.{Bool, not, cond, _&&_, _||_}
 use mathlib.Core.List.{List}
 use Prim.Native.Nat.{ℕ, _≤_}
 use lib.Dec.{eqb}
@@ -10,11 +10,11 @@ use lib.ListN.{length, drop}
 use Rattle.integers.specs.Ranges.{isZero}
 use Rattle.integers.specs.Lists.{sumℤ, every}
 use Rattle.rules.specs.declared.Day.{Day}
-use Rattle.rules.specs.Limits.{zoneFit, entryFit, exitFit, titleFit, poolingFit, positionFit}
+use Rattle.rules.specs.Limits.{zoneFit, positionFit}
 use Rattle.rules.specs.Days.{users, hoursDone, isClosed, part}
 use Rattle.rules.specs.Refusals.{unless, _then_}
 use Rattle.rules.specs.Causes.{tableFit}
-use Rattle.positions.specs.Before.{befores}
+use Rattle.positions.specs.Before.{allFit, befores, Lent}
 
 -- ---- causes 3 to 6, of which the call tests the lengths and the hour
 unfoldable pub formCause : Day → ℤ → Bool → Bool → ℕ
@@ -50,30 +50,13 @@ pub record Tabled (d : Day) (t : List ℤ) : Type 0 where
 
 -- ---- causes 9 to 11, over a part
 
--- one user's amounts
-unfoldable pub userFit : ℤ → ℤ → ℤ → ℤ → Bool
-userFit e x t i = entryFit e && (exitFit x && (titleFit t && poolingFit i))
-
--- those of all users
-unfoldable pub allFit : List ℤ → List ℤ → List ℤ → List ℤ → Bool
-allFit e x t i = every entryFit e && (every exitFit x && (every titleFit t && every poolingFit i))
-
 unfoldable pub amountsCause : List ℤ → List ℤ → List ℤ → List ℤ → List ℤ → ℕ
 amountsCause p e x t i =
     unless (allFit e x t i) 9
     then unless (isZero (sumℤ i)) 10
     then unless (every positionFit (befores p e x t i)) 11
 
--- lists of one length, and a part that is in range and has a place for each user
-pub record Lent (p e x t i : List ℤ) : Type 0 where
-  pub exits : length x ≡ length e
-  pub titles : length t ≡ length e
-  pub poolings : length i ≡ length e
-  pub few : length e ≤ 128
-  pub room : length e ≤ length p
-  pub positions : every positionFit p ≡ true
-
--- the same of a zone's part of a table
+-- what they count on, of a zone's part of a table
 pub record LentTable (zone : ℤ) (tb e x t i : List ℤ) : Type 0 where
   pub long : length tb ≡ 256
   pub lent : Lent (part zone tb) e x t i

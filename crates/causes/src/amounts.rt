@@ -1,10 +1,10 @@
-// Causes 9 to 11 in one pass over the users.
+// Causes 9 to 11: the ranges of the amounts, the sum of the pooling amounts, the positions before settlement.
 ghost use mathlib.Core.Path.{_≡_};
-ghost use mathlib.Core.Bool.{true};
-ghost use lib.IntN.{_+ℤ_};
+ghost use Rattle.integers.specs.Lists.{every};
 ghost use Rattle.rules.specs.Limits.{positionFit};
 ghost use Rattle.rules.specs.Days.{part};
-ghost use Rattle.causes.specs.Steps.{userFit, amountsCause, Lent, LentTable};
+ghost use Rattle.positions.specs.Before.{allFit, befores, Lent, Amounts};
+ghost use Rattle.causes.specs.Steps.{amountsCause, LentTable};
 use crate::checks;
 use crate::places;
 use rules::limits::Entry;
@@ -12,55 +12,49 @@ use rules::limits::Exit;
 use rules::limits::Pooling;
 use rules::limits::Title;
 
-// A user's four amounts, each in its range.
-fn user_fit(entry: i64, exit: i64, title: i64, pooling: i64) -> bool
-    ensures { λ r. ⌜ r ≡ userFit entry exit title pooling ⌝ }
+// Cause 9, one list after the other: a list out of range leaves the next unlooked at.
+fn amounts_fit(entry: &[i64], exit: &[i64], title: &[i64], pooling: &[i64]) -> bool
+    ensures { λ r. ⌜ r ≡ allFit (now (entry .entry)) (now (exit .entry)) (now (title .entry)) (now (pooling .entry)) ⌝ }
 {
-    integers::both(
-        integers::within(Entry::LEAST, Entry::MOST, entry),
-        integers::both(
-            integers::within(Exit::LEAST, Exit::MOST, exit),
-            integers::both(
-                integers::within(Title::LEAST, Title::MOST, title),
-                integers::within(Pooling::LEAST, Pooling::MOST, pooling),
-            ),
-        ),
-    )
+    if !integers::all_within(Entry::LEAST, Entry::MOST, entry) {
+        return false;
+    }
+    if !integers::all_within(Exit::LEAST, Exit::MOST, exit) {
+        return false;
+    }
+    if !integers::all_within(Title::LEAST, Title::MOST, title) {
+        return false;
+    }
+    integers::all_within(Pooling::LEAST, Pooling::MOST, pooling)
 }
 
-// A user's position before settlement is in its range.
-fn before_fit(position: i64, entry: i64, exit: i64, title: i64, pooling: i64) -> bool
-    requires { ⌜ (positionFit position ≡ true) × (userFit entry exit title pooling ≡ true) ⌝ }
-    ensures { λ r. ⌜ r ≡ positionFit (position +ℤ (entry +ℤ exit +ℤ title +ℤ pooling)) ⌝ }
+// Cause 11. The sums are safe, since every amount is in its range.
+fn befores_fit(part: &[i64], entry: &[i64], exit: &[i64], title: &[i64], pooling: &[i64]) -> bool
+    requires { ⌜ Amounts (now part) (now entry) (now exit) (now title) (now pooling) ⌝ }
+    ensures { λ r. ⌜ r ≡ every positionFit (befores (now (part .entry)) (now (entry .entry)) (now (exit .entry)) (now (title .entry)) (now (pooling .entry))) ⌝ }
 {
-    let before = positions::before_of(position, entry, exit, title, pooling);
-    places::position_fit(before)
+    let mut fit = true;
+    let mut i: usize = 0;
+    while i < entry.len() {
+        let before = positions::before_of(part[i], entry[i], exit[i], title[i], pooling[i]);
+        fit = integers::both(fit, places::position_fit(before));
+        i += 1;
+    }
+    fit
 }
 
-// The sums are safe, since a user whose amounts are out of range ends the pass.
 fn amounts_cause(part: &[i64], entry: &[i64], exit: &[i64], title: &[i64], pooling: &[i64]) -> u64
     requires { ⌜ Lent (now part) (now entry) (now exit) (now title) (now pooling) ⌝ }
     ensures { λ r. ⌜ r ≡ amountsCause (now (part .entry)) (now (entry .entry)) (now (exit .entry)) (now (title .entry)) (now (pooling .entry)) ⌝ }
 {
-    let mut pooled: i64 = 0;
-    let mut fit = true;
-    let mut user: usize = 0;
-    while user < entry.len() {
-        let e = entry[user];
-        let x = exit[user];
-        let t = title[user];
-        let i = pooling[user];
-        if !user_fit(e, x, t, i) {
-            return 9;
-        }
-        pooled = pooled + i;
-        fit = integers::both(fit, before_fit(part[user], e, x, t, i));
-        user += 1;
+    if !amounts_fit(entry, exit, title, pooling) {
+        return 9;
     }
-    checks::first(
-        checks::refusal(integers::is_zero(pooled), 10),
-        checks::refusal(fit, 11),
-    )
+    let pooled = positions::sum_of(pooling);
+    if !integers::is_zero(pooled) {
+        return 10;
+    }
+    checks::refusal(befores_fit(part, entry, exit, title, pooling), 11)
 }
 
 // The same over the zone's part of the table.

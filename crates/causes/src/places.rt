@@ -17,19 +17,6 @@ pub fn position_fit(kwh: i64) -> bool
     integers::within(Position::LEAST, Position::MOST, kwh)
 }
 
-fn positions_fit(places: &[i64]) -> bool
-    ensures { λ r. ⌜ r ≡ every positionFit (now (places .entry)) ⌝ }
-{
-    let mut i: usize = 0;
-    while i < places.len() {
-        if !position_fit(places[i]) {
-            return false;
-        }
-        i += 1;
-    }
-    true
-}
-
 // All places together by `or`, in a pass without a branch.
 fn all_zero(places: &[i64]) -> bool
     ensures { λ r. ⌜ r ≡ every isZero (now (places .entry)) ⌝ }
@@ -47,7 +34,7 @@ fn part_fit(live: usize, part: &[i64]) -> bool
     requires { ⌜ live ≤ length (now part) ⌝ }
     ensures { λ r. ⌜ r ≡ partFit live (now (part .entry)) ⌝ }
 {
-    if positions_fit(&part[0..live]) {
+    if integers::all_within(Position::LEAST, Position::MOST, &part[0..live]) {
         all_zero(&part[live..])
     } else {
         false

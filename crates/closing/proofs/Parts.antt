@@ -1,18 +1,19 @@
 -- What the closing of a part and of the table have to show between their calls. Assumes nothing.
-use mathlib.Core.Path.{_≡_, sym, ap, ap₂, _∙_}
+use mathlib.Core.Path.{_≡_, sym, ap, _∙_}
 use mathlib.Core.Bool.{true, false}
 use mathlib.Core.List.{List, _++_, map}
 use Prim.Native.Nat.{ℕ, _≤_}
 use native.Mathlib.Omega.{arith}
 use lib.IntN.{ℤ, pos}
 use lib.ListN.{length, take, drop, replicate, length-take, length-drop}
-use lib.Seq.{drop-drop}
 use Rattle.integers.specs.Ranges.{isZero}
 use Rattle.integers.specs.Lists.{sumℤ, AtMost}
-use Rattle.integers.proofs.Sums.{at-most-take}
+use Rattle.integers.proofs.Passes.{every-take}
 use Rattle.rules.specs.declared.ClosingTerms.{ClosingTerms}
-use Rattle.rules.specs.Days.{firstPlace, part, withPart}
+use Rattle.rules.specs.Limits.{positionFit}
 use Rattle.rules.specs.Market.{moneys, sold, bought}
+use Rattle.rules.proofs.Small.{positions-small}
+use Rattle.rules.proofs.Zones.{part-h, part-l, with-h, with-l}
 use Rattle.closing.specs.Steps.{tradedOf, Asks, PartLeaves, TableAsks, TableLeaves}
 use Rattle.closing.proofs.Sizes.{sold-is, bought-is}
 
@@ -23,7 +24,7 @@ module _ {p : List ℤ} {k : ClosingTerms} {q m : List ℤ} (a : Asks p k q m) (
 
   module _ (w : List ℤ) (ew : w ≡ take n p) where
     pub quantity-asked : (length w ≤ 128) × AtMost 100_000_000 w
-    quantity-asked = rw ew (simp length-take (omega (arith, a .few)), at-most-take n p (a .positions))
+    quantity-asked = rw ew (simp length-take (omega (arith, a .few)), positions-small _ (every-take positionFit n p (a .positions)))
 
     pub money-asked : length m ≡ length w
     money-asked = a .moneys ∙ copy-asked ∙ sym (ap length ew)
@@ -41,26 +42,15 @@ module _ {p : List ℤ} {k : ClosingTerms} {q m : List ℤ} (a : Asks p k q m) (
     }
 
 -- the zone's part of the table
-module _ {tb : List ℤ} {k : ClosingTerms} {q m : List ℤ} (a : TableAsks tb k q m) where
-  pub part-h : isZero (k .zone) ≡ true → Asks (take 128 tb) k q m
-  unfolding part firstPlace
-  part-h z = rw z at (a .lists)
+module _ {tb : List ℤ} {k : ClosingTerms} {q m : List ℤ} (a : TableAsks tb k q m) (n : ℕ) (p' q' m' : List ℤ) (s b : ℤ) where
+  pub left-h : isZero (k .zone) ≡ true → PartLeaves n (take 128 tb) p' k q' m' s b → TableLeaves n tb (p' ++ drop 128 tb) k q' m' s b
+  left-h z v =
+      let l : length (take 128 tb) ≡ 128 = simp length-take (omega (arith, a .long)) in
+      let e : p' ≡ replicate 128 (pos 0) = v .places ∙ ap (λ (j : ℕ). replicate j (pos 0)) l in
+      record { lists = rw (part-h (k .zone) tb z) (v .lists); table = rw (with-h (k .zone) tb _ z) (ap (λ (y : List ℤ). y ++ drop 128 tb) e) }
 
-  pub part-l : isZero (k .zone) ≡ false → Asks (take 128 (drop 128 tb)) k q m
-  unfolding part firstPlace
-  part-l z = rw z at (a .lists)
-
-  module _ (n : ℕ) (p' q' m' : List ℤ) (s b : ℤ) where
-    pub left-h : isZero (k .zone) ≡ true → PartLeaves n (take 128 tb) p' k q' m' s b → TableLeaves n tb (p' ++ drop 128 tb) k q' m' s b
-    unfolding part firstPlace withPart
-    left-h z v =
-        let l : length (take 128 tb) ≡ 128 = simp length-take (omega (arith, a .long)) in
-        let e : p' ≡ replicate 128 (pos 0) = v .places ∙ ap (λ (j : ℕ). replicate j (pos 0)) l in
-        record { lists = rw z (v .lists); table = rw z (ap (λ (y : List ℤ). y ++ drop 128 tb) e) }
-
-    pub left-l : isZero (k .zone) ≡ false → PartLeaves n (take 128 (drop 128 tb)) p' k q' m' s b → TableLeaves n tb (take 128 tb ++ (p' ++ drop 128 (drop 128 tb))) k q' m' s b
-    unfolding part firstPlace withPart
-    left-l z v =
-        let l : length (take 128 (drop 128 tb)) ≡ 128 = simp (length-take, length-drop) (omega (arith, a .long)) in
-        let e : p' ≡ replicate 128 (pos 0) = v .places ∙ ap (λ (j : ℕ). replicate j (pos 0)) l in
-        record { lists = rw z (v .lists); table = rw z (ap₂ (λ (y r : List ℤ). take 128 tb ++ (y ++ r)) e (drop-drop 128 128 tb)) }
+  pub left-l : isZero (k .zone) ≡ false → PartLeaves n (take 128 (drop 128 tb)) p' k q' m' s b → TableLeaves n tb (take 128 tb ++ (p' ++ drop 128 (drop 128 tb))) k q' m' s b
+  left-l z v =
+      let l : length (take 128 (drop 128 tb)) ≡ 128 = simp (length-take, length-drop) (omega (arith, a .long)) in
+      let e : p' ≡ replicate 128 (pos 0) = v .places ∙ ap (λ (j : ℕ). replicate j (pos 0)) l in
+      record { lists = rw (part-l (k .zone) tb z) (v .lists); table = rw (with-l (k .zone) tb _ z) (ap (λ (y : List ℤ). take 128 tb ++ (y ++ drop 128 (drop 128 tb))) e) }

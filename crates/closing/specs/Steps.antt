@@ -1,15 +1,17 @@
 -- What the closing of a zone asks and leaves, as its contracts state it. A reader who believes the rules need not believe these. Assumes nothing.
 use mathlib.Core.Path.{_≡_}
-use mathlib.Core.Bool.{Bool, cond}
+use mathlib.Core.Bool.{Bool, true, cond}
 use mathlib.Core.List.{List}
 use Prim.Native.Nat.{ℕ, _≤_}
-use lib.IntN.{ℤ, pos, natAbs, negℤ}
+use lib.IntN.{ℤ, pos, negℤ}
 use lib.ListN.{length, take, replicate}
 use lib.Signed.{ltZ}
-use Rattle.integers.specs.Lists.{AtMost}
+use Rattle.integers.specs.Lists.{every}
 use Rattle.rules.specs.declared.ClosingTerms.{ClosingTerms}
+use Rattle.rules.specs.Limits.{positionFit}
 use Rattle.rules.specs.Days.{part, withPart}
 use Rattle.rules.specs.Market.{moneys, sold, bought}
+use Rattle.rules.specs.Causes.{pricesFit}
 
 -- one quantity's part of the two sums
 unfoldable pub soldOf : ℤ → ℤ
@@ -21,17 +23,13 @@ boughtOf q = cond (ltZ q (pos 0)) (negℤ q) (pos 0)
 unfoldable pub tradedOf : Bool → ℤ → ℤ
 tradedOf sale q = cond sale (soldOf q) (boughtOf q)
 
-pub record PricesSmall (k : ClosingTerms) : Type 0 where
-  pub excess : natAbs (k .«excess_price») ≤ 10_000_000
-  pub shortfall : natAbs (k .«shortfall_price») ≤ 10_000_000
-
 -- of a zone's part p, with a place for each user
 pub record Asks (p : List ℤ) (k : ClosingTerms) (q m : List ℤ) : Type 0 where
   pub few : length q ≤ 128
   pub room : length q ≤ length p
   pub moneys : length m ≡ length q
-  pub positions : AtMost 100_000_000 p
-  pub prices : PricesSmall k
+  pub positions : every positionFit p ≡ true
+  pub prices : pricesFit (k .«excess_price») (k .«shortfall_price») ≡ true
 
 -- of n users at the first places of the part p
 pub record Leaves (n : ℕ) (p : List ℤ) (k : ClosingTerms) (q' m' : List ℤ) (s b : ℤ) : Type 0 where

@@ -5,27 +5,23 @@ use mathlib.Core.List.{List}
 use Prim.Native.Nat.{ℕ, _+_, _-_, _≤_}
 use native.Mathlib.Omega.{arith}
 use lib.Dec.{lit≤}
-use lib.IntN.{ℤ, pos, negℤ, _+ℤ_, _-ℤ_}
+use lib.IntN.{ℤ, pos, _+ℤ_, _-ℤ_}
 use lib.ListN.{length, getD, take, drop, length-take, length-drop}
-use lib.Seq.{ext-getD, take-at, take-take}
+use lib.Seq.{ext-getD, take-take}
 use Rattle.integers.specs.Ranges.{isZero}
-use Rattle.integers.specs.Lists.{every, AtMost}
 use Rattle.integers.proofs.Linear.{lin2, diffs, linear}
-use Rattle.integers.proofs.Counts.{length-tabulate}
-use Rattle.integers.proofs.Passes.{every-at-most}
-use Rattle.integers.proofs.Tests.{range-size}
 use Rattle.rules.specs.declared.Day.{Day}
 use Rattle.rules.specs.declared.HourAnswer.{HourAnswer}
-use Rattle.rules.specs.Limits.{positionFit}
-use Rattle.rules.specs.Days.{users, firstPlace, part, onto}
+use Rattle.rules.specs.Days.{users, firstPlace, part}
 use Rattle.rules.specs.Hours.{Hour, before}
 use Rattle.rules.specs.Market.{quantities, after}
 use Rattle.rules.specs.Causes.{hourCause, beforeFit}
 use Rattle.rules.specs.Answers.{hourImbalance, hourAnswer, hourTable, hourQuantity, hourMoney, hourNumber}
 use Rattle.rules.proofs.Refusing.{some-cause, by-none, by-some}
-use Rattle.rules.proofs.Zones.{length-part, part-changed, length-onto}
 use Rattle.rules.proofs.Accepted.{hour-fit, hour-number, hour-sound, hour-lengths}
-use Rattle.rules.proofs.Settling.{length-quantities, length-after, after-at}
+use Rattle.rules.proofs.Small.{positions-small}
+use Rattle.rules.proofs.Conserving.{length-before, positions-left}
+use Rattle.rules.proofs.Settling.{length-quantities, after-at}
 use Rattle.report.specs.Text.{refusedLine, hourText}
 use Rattle.report.specs.Puts.{Put}
 use Rattle.firsthour.specs.Lent.{sums, Adds, afters, settledText, Settled, TextRoom}
@@ -63,10 +59,6 @@ settled-put zone table q m a b e f p = rw (← e, ← f) p
 regained : (q b : ℤ) → q +ℤ (b -ℤ q) ≡ b
 regained = lin2 _ (λ a b c d. simp diffs (omega linear))
 
-positions-small : (xs : List ℤ) → every positionFit xs ≡ true → AtMost 100_000_000 xs
-unfolding positionFit
-positions-small = every-at-most positionFit 100_000_000 (λ x e. range-size 100_000_000 (negℤ (pos 100_000_000)) (pos 100_000_000) x (lit≤ tt) (lit≤ tt) e)
-
 module _ (d : Day) (t : List ℤ) (g : Hour) where
   -- the number of the answer is the cause
   pub cause-is : {r : HourAnswer} {n : ℕ} → r ≡ hourAnswer d t g → n ≡ hourNumber r → n ≡ hourCause d t g
@@ -77,24 +69,6 @@ module _ (d : Day) (t : List ℤ) (g : Hour) where
   refused-text e h = by-some _ _ _ (some-cause e h) ∙ ap refusedLine (sym e)
 
   module _ (k : hourCause d t g ≡ 0) where
-    long-before : length (before d t g) ≡ users d
-    unfolding before
-    long-before = length-tabulate _ (users d)
-
-    positions-left : afters (g .terms .zone) (users d) (hourTable d t g) ≡ after (hourImbalance d t g) (before d t g)
-    unfolding afters hourTable onto
-    positions-left =
-        let s = hour-sound d t g k in
-        let l = length-after (hourImbalance d t g) (before d t g) ∙ long-before in
-        let p = length-onto (after (hourImbalance d t g) (before d t g)) (part (g .terms .zone) t) (omega (arith, l, s .few, length-part t (s .long) (s .zoned))) ∙ length-part t (s .long) (s .zoned) in
-        ap (λ (x : List ℤ). take (users d) (part (g .terms .zone) x)) (by-none _ _ _ k)
-        ∙ ap (take (users d)) (part-changed t (s .long) _ (s .zoned) p)
-        ∙ take-at _ _ (users d) l
-
-    places-left : take (users d) (part (g .terms .zone) (hourTable d t g)) ≡ after (hourImbalance d t g) (before d t g)
-    unfolding afters
-    places-left = positions-left
-
     -- the quantities and the positions after add up to the positions before
     sums-are : sums (quantities (hourImbalance d t g) (before d t g)) (after (hourImbalance d t g) (before d t g)) ≡ before d t g
     sums-are =
@@ -112,17 +86,18 @@ module _ (d : Day) (t : List ℤ) (g : Hour) where
       quantity-is = eq ∙ by-none _ _ _ k
 
       long-quantity : length q′ ≡ users d
-      long-quantity = ap length quantity-is ∙ length-quantities (hourImbalance d t g) (before d t g) ∙ long-before
+      long-quantity = ap length quantity-is ∙ length-quantities (hourImbalance d t g) (before d t g) ∙ length-before d t g
 
       left : afters (g .terms .zone) (length q′) t′ ≡ after (hourImbalance d t g) (before d t g)
-      left = rw (long-quantity, et) positions-left
+      unfolding afters
+      left = rw (long-quantity, et) (positions-left d t g k)
 
       sums-left : sums q′ (afters (g .terms .zone) (length q′) t′) ≡ before d t g
       sums-left = rw (left, quantity-is) sums-are
 
       pub done-text : settled d t g ≡ settledText (g .terms .zone) t′ q′ m′
       unfolding settled unlessRefused settledText
-      done-text = by-none _ _ _ k ∙ rw (sums-left, left, ← eq, ← em) (ap (hourText (before d t g) q′ m′) places-left)
+      done-text = by-none _ _ _ k ∙ rw (sums-left, left, ← eq, ← em) (ap (hourText (before d t g) q′ m′) (positions-left d t g k))
 
       pub done-asks : {out : List ℕ} {b : List ℤ} → TextRoom out b (g .entry) → length t′ ≡ length t → length m′ ≡ length (g .money) → Settled out (g .terms .zone) t′ q′ m′ b
       unfolding beforeFit

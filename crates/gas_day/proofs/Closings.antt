@@ -15,9 +15,9 @@ use Rattle.rules.specs.Answers.{closingAnswer, closingTable, closingQuantity, c
 use Rattle.rules.specs.Promises.{ClosingPromise}
 use Rattle.rules.proofs.Refusing.{some-cause, by-none, by-some}
 use Rattle.rules.proofs.Zones.{length-part}
-use Rattle.rules.proofs.Accepted.{ClosingFit, closing-fit, ClosingLengths, closing-lengths, closing-sound}
+use Rattle.rules.specs.Guarantees.{ClosingFit}
+use Rattle.rules.proofs.Accepted.{closing-fit, ClosingLengths, closing-lengths, closing-sound, part-fits}
 use Rattle.closing.specs.Steps.{TableAsks, TableLeaves}
-use Rattle.gas_day.proofs.Fits.{part-small, prices-small}
 
 module _ (d : Day) (t : List ℤ) (g : Closing) (c : ℕ) (is : c ≡ closingCause d t g) where
   pub refused : (c ≡ 0 → ⊥) → ClosingPromise d t g t (g .quantity) (g .money) (Refused (record { number = c; day = d }))
@@ -51,8 +51,8 @@ module _ (d : Day) (t : List ℤ) (g : Closing) (c : ℕ) (is : c ≡ closingCau
             few = omega (arith, l .quantities, s .few);
             room = omega (arith, l .quantities, s .few, length-part t (s .long) (s .zoned));
             moneys = omega (arith, l .quantities, l .moneys);
-            positions = part-small (g .terms .zone) d t (fit .table);
-            prices = prices-small (g .terms) (fit .prices);
+            positions = part-fits (g .terms .zone) d t (fit .table);
+            prices = fit .prices;
           };
         }
 

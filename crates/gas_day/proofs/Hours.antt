@@ -10,16 +10,16 @@ use Rattle.rules.specs.declared.Outcome.{Outcome}
 use Rattle.rules.specs.declared.HourAnswer.the-variants.{Refused, Done}
 use Rattle.rules.specs.Days.{users, part, dayAfterHour}
 use Rattle.rules.specs.Hours.{Hour, before}
-use Rattle.rules.specs.Causes.{dayFit, hourCause, beforeFit}
+use Rattle.rules.specs.Causes.{dayFit, amountsFit, hourCause, beforeFit}
 use Rattle.rules.specs.Answers.{hourImbalance, hourAnswer, hourTable, hourQuantity, hourMoney, hourScratch}
 use Rattle.rules.specs.Promises.{HourPromise}
 use Rattle.rules.proofs.Refusing.{some-cause, by-none, by-some}
 use Rattle.rules.proofs.Zones.{length-part}
-use Rattle.rules.proofs.Accepted.{HourFit, hour-fit, HourLengths, hour-lengths, hour-sound}
-use Rattle.positions.specs.Before.{befores}
+use Rattle.rules.specs.Guarantees.{HourFit}
+use Rattle.rules.proofs.Accepted.{hour-fit, HourLengths, hour-lengths, hour-sound, part-fits}
+use Rattle.positions.specs.Before.{befores, allFit}
 use Rattle.positions.proofs.Before.{before-is}
 use Rattle.settlement.specs.Steps.{TableAsks, TableLeaves}
-use Rattle.gas_day.proofs.Fits.{positions-small, part-small, amounts-small, terms-small}
 
 module _ (d : Day) (t : List ℤ) (g : Hour) (c : ℕ) (is : c ≡ hourCause d t g) where
   pub refused : (c ≡ 0 → ⊥) → HourPromise d t g t (g .quantity) (g .money) (g .scratch) (Refused (record { number = c; day = d }))
@@ -51,28 +51,26 @@ module _ (d : Day) (t : List ℤ) (g : Hour) (c : ℕ) (is : c ≡ hourCause d t
     day-fits = fit .day
 
     pub asks : TableAsks t (g .entry) (g .exit) (g .title) (g .pooling) (g .terms) (g .quantity) (g .money) (g .scratch)
-    unfolding beforeFit
+    unfolding amountsFit beforeFit allFit
     asks =
         let s = hour-sound d t g none in
         let l = lengths in
-        let a = amounts-small g (fit .amounts) in
         record {
           long = s .long;
           lists = record {
             amounts = record {
-              exits = omega (arith, l .entries, l .exits);
-              titles = omega (arith, l .entries, l .titles);
-              poolings = omega (arith, l .entries, l .poolings);
-              room = omega (arith, l .entries, s .few, length-part t (s .long) (s .zoned));
-              position = part-small (g .terms .zone) d t (fit .table);
-              entry = a .entry;
-              exit = a .exit;
-              title = a .title;
-              pooling = a .pooling;
+              lent = record {
+                exits = omega (arith, l .entries, l .exits);
+                titles = omega (arith, l .entries, l .titles);
+                poolings = omega (arith, l .entries, l .poolings);
+                few = omega (arith, l .entries, s .few);
+                room = omega (arith, l .entries, s .few, length-part t (s .long) (s .zoned));
+                positions = part-fits (g .terms .zone) d t (fit .table);
+              };
+              fit = fit .amounts;
             };
-            few = omega (arith, l .entries, s .few);
-            positions = positions-small _ (rw positions-before at (fit .positions));
-            terms = terms-small (g .terms) (fit .terms);
+            positions = rw positions-before at (fit .positions);
+            terms = fit .terms;
             quantities = omega (arith, l .entries, l .quantities);
             moneys = omega (arith, l .entries, l .moneys);
             scratches = omega (arith, l .entries, l .scratches);

@@ -1,5 +1,4 @@
 -- Why the calls of the Gas Day answer as the rules say.
-mod Fits
 mod Openings
 mod Hours
 mod Closings

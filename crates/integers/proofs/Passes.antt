@@ -1,7 +1,7 @@
 -- Loops over a list in place order: one that writes a list, one that tests every element, one that adds the elements. For each: what holds before the first turn,
 -- after a turn, and at the end. Assumes nothing.
-use mathlib.Core.Path.{_≡_, refl, sym, _∙_}
-use mathlib.Core.Bool.{Bool, true, false}
+use mathlib.Core.Path.{_≡_, refl, sym, ap, _∙_}
+use mathlib.Core.Bool.{Bool, true, false, _&&_, and-assoc, and-true as and-unit}
 use mathlib.Core.List.{List, [], _∷_, _++_, append-nil}
 use Prim.Native.Nat.{ℕ, zero, suc, _+_, _*_, _^_, _≤_, _<_, zero-le}
 use native.Mathlib.Nat.{not-suc-le-zero, le-of-suc-le-suc}
@@ -15,7 +15,7 @@ use mir.Val.{SFits, toZ, ofZ}
 use Rattle.integers.specs.Lists.{sumℤ, every, AtMost}
 use Rattle.integers.proofs.Machine.{read, read-le, fits-add}
 use Rattle.integers.proofs.Sizes.{size-eq}
-use Rattle.integers.proofs.Tests.{and-true, both-true}
+use Rattle.integers.proofs.Tests.{and-true}
 use Rattle.integers.proofs.Sums.{sumℤ-step, sum-take-bound, at-most-cons}
 
 -- ---- a loop that writes the list t over the list o, of any elements, fresh or in place: it has come to i
@@ -72,17 +72,30 @@ module _ {A : Type 0} (p : A → Bool) (xs : List A) (i : ℕ) where
   unfolding every
   every-stop z h e = rw (drop-cons xs i z, e)
 
--- what holds of every element holds of each, and the other way round
+-- ---- a loop that tests every element of xs to the end: the invariant is `fit ≡ every p (take i xs)`
+module _ {A : Type 0} (p : A → Bool) where
+  pub every-append : (xs ys : List A) → every p (xs ++ ys) ≡ (every p xs && every p ys)
+  unfolding every
+  every-append [] ys = refl
+  every-append (x ∷ xs) ys = ap (λ (b : Bool). p x && b) (every-append xs ys) ∙ sym (and-assoc (p x) (every p xs) (every p ys))
+
+  -- a loop's step: one element more
+  pub every-step : (z : A) (xs : List A) (i : ℕ) → i < length xs → every p (take (i + 1) xs) ≡ (every p (take i xs) && p (getD xs i z))
+  unfolding every
+  every-step z xs i h = rw (add-one, take-suc xs i z) (every-append (take i xs) (getD xs i z ∷ []) ∙ ap (λ (b : Bool). every p (take i xs) && b) (and-unit (p (getD xs i z))))
+
+-- what holds of every element holds of the first, of the last and of each
+pub every-take : {A : Type 0} (p : A → Bool) (n : ℕ) (xs : List A) → every p xs ≡ true → every p (take n xs) ≡ true
+every-take p n xs e = and-true (every p (take n xs)) (every p (drop n xs)) (sym (every-append p (take n xs) (drop n xs)) ∙ ap (every p) (take-append-drop n xs) ∙ e) .0
+
+pub every-drop : {A : Type 0} (p : A → Bool) (n : ℕ) (xs : List A) → every p xs ≡ true → every p (drop n xs) ≡ true
+every-drop p n xs e = and-true (every p (take n xs)) (every p (drop n xs)) (sym (every-append p (take n xs) (drop n xs)) ∙ ap (every p) (take-append-drop n xs) ∙ e) .1
+
 pub every-at : {A : Type 0} (p : A → Bool) (xs : List A) (i : ℕ) (z : A) → every p xs ≡ true → i < length xs → p (getD xs i z) ≡ true
 unfolding every
 every-at p [] i z e h = absurd (not-suc-le-zero h)
 every-at p (x ∷ xs) zero z e h = and-true (p x) (every p xs) e .0
 every-at p (x ∷ xs) (suc i) z e h = every-at p xs i z (and-true (p x) (every p xs) e .1) (le-of-suc-le-suc h)
-
-pub every-of : {A : Type 0} (p : A → Bool) (xs : List A) (z : A) → ((i : ℕ) → i < length xs → p (getD xs i z) ≡ true) → every p xs ≡ true
-unfolding every
-every-of p [] z h = refl
-every-of p (x ∷ xs) z h = both-true (h 0 (omega arith)) (every-of p xs z (λ i l. h (suc i) (omega arith)))
 
 -- a test that bounds each element
 pub every-at-most : (p : ℤ → Bool) (n : ℕ) → ((x : ℤ) → p x ≡ true → natAbs x ≤ n) → (xs : List ℤ) → every p xs ≡ true → AtMost n xs

@@ -1,18 +1,18 @@
 -- Sums of lists of integers, and lists whose elements are bounded in size. Assumes nothing.
 use mathlib.Core.Path.{_≡_, refl, sym, ap, _∙_}
-use mathlib.Core.List.{List, [], _∷_, _++_, map, zipWith}
+use mathlib.Core.List.{List, [], _∷_, _++_, zipWith}
 use Prim.Native.Nat.{ℕ, zero, suc, _+_, _*_, _≤_, _<_, zero-le}
 use native.Mathlib.Omega.{arith}
 use native.Mathlib.Nat.{le-of-suc-le-suc, not-suc-le-zero}
 use native.Mathlib.Numerals.{add-one}
-use lib.IntN.{ℤ, pos, natAbs, negℤ, _+ℤ_, _-ℤ_, +ℤ-idl, +ℤ-idr, +ℤ-assoc, negℤ-+ℤ}
+use lib.IntN.{ℤ, pos, natAbs, _+ℤ_, _-ℤ_, +ℤ-idl, +ℤ-idr, +ℤ-assoc}
 use lib.ListN.{length, take, drop, getD}
 use lib.Seq.{take-suc}
 use Rattle.integers.specs.Lists.{sumℤ, AtMost}
 use Rattle.integers.proofs.Linear.{lin4, diffs, linear}
 use Rattle.integers.proofs.Sizes.{size-add}
 
-pub sum-append : (xs ys : List ℤ) → sumℤ (xs ++ ys) ≡ sumℤ xs +ℤ sumℤ ys
+sum-append : (xs ys : List ℤ) → sumℤ (xs ++ ys) ≡ sumℤ xs +ℤ sumℤ ys
 unfolding sumℤ
 sum-append [] ys = sym (+ℤ-idl (sumℤ ys))
 sum-append (x ∷ xs) ys = ap (λ (z : ℤ). x +ℤ z) (sum-append xs ys) ∙ sym (+ℤ-assoc x (sumℤ xs) (sumℤ ys))
@@ -22,17 +22,7 @@ pub sumℤ-step : (xs : List ℤ) (i : ℕ) → i < length xs → sumℤ (take (
 unfolding sumℤ
 sumℤ-step xs i h = rw (add-one, take-suc xs i (pos 0), sum-append) (ap (λ (z : ℤ). sumℤ (take i xs) +ℤ z) (+ℤ-idr (getD xs i (pos 0))))
 
--- the sum of pointwise sums or differences, and of negations
-pub sum-zip-add : (xs ys : List ℤ) → length xs ≡ length ys → sumℤ (zipWith _+ℤ_ xs ys) ≡ sumℤ xs +ℤ sumℤ ys
-unfolding sumℤ zipWith
-sum-zip-add [] [] e = refl
-sum-zip-add [] (y ∷ ys) e = absurd (omega arith)
-sum-zip-add (x ∷ xs) [] e = absurd (omega arith)
-sum-zip-add (x ∷ xs) (y ∷ ys) e = rw (sum-zip-add xs ys (omega arith)) (swap x y (sumℤ xs) (sumℤ ys))
-  where
-    swap : (x y s t : ℤ) → (x +ℤ y) +ℤ (s +ℤ t) ≡ (x +ℤ s) +ℤ (y +ℤ t)
-    swap = lin4 _ (λ a b c d e f g h. simp diffs (omega linear))
-
+-- the sum of pointwise differences
 pub sum-zip-sub : (xs ys : List ℤ) → length xs ≡ length ys → sumℤ (zipWith _-ℤ_ xs ys) ≡ sumℤ xs -ℤ sumℤ ys
 unfolding sumℤ zipWith
 sum-zip-sub [] [] e = refl
@@ -42,11 +32,6 @@ sum-zip-sub (x ∷ xs) (y ∷ ys) e = rw (sum-zip-sub xs ys (omega arith)) (swap
   where
     swap : (x y s t : ℤ) → (x -ℤ y) +ℤ (s -ℤ t) ≡ (x +ℤ s) -ℤ (y +ℤ t)
     swap = lin4 _ (λ a b c d e f g h. simp diffs (omega linear))
-
-pub sum-neg : (xs : List ℤ) → sumℤ (map negℤ xs) ≡ negℤ (sumℤ xs)
-unfolding sumℤ
-sum-neg [] = refl
-sum-neg (x ∷ xs) = rw (sum-neg xs) (sym (negℤ-+ℤ x (sumℤ xs)))
 
 -- ---- lists whose elements are at most n in size
 pub at-most-tail : {n : ℕ} {x : ℤ} {xs : List ℤ} → AtMost n (x ∷ xs) → AtMost n xs

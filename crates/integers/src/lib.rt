@@ -5,6 +5,7 @@ ghost use Prim.Native.Nat.{_*_, _^_, _<_};
 ghost use lib.IntN.{pos, natAbs, negℤ, _*ℤ_};
 ghost use lib.ListN.{length, replicate};
 ghost use lib.Signed.{leZ};
+ghost use Rattle.integers.specs.Lists.{every};
 ghost use Rattle.integers.specs.Ranges.{inRange, isZero, natural};
 
 // The order of two signed numbers. (A call, where `<=` would be, hands its caller an equation of the Boolean.)
@@ -72,6 +73,19 @@ pub fn natural(x: i64) -> usize
     ensures { λ r. ⌜ r ≡ natural x ⌝ }
 {
     if x < 0 { 0 } else { x as usize }
+}
+
+// Every element from `lo` to `hi`, in a pass that stops nowhere: it is compiled to vector instructions.
+pub fn all_within(lo: i64, hi: i64, list: &[i64]) -> bool
+    ensures { λ r. ⌜ r ≡ every (inRange lo hi) (now (list .entry)) ⌝ }
+{
+    let mut fit = true;
+    let mut i: usize = 0;
+    while i < list.len() {
+        fit = both(fit, within(lo, hi, list[i]));
+        i += 1;
+    }
+    fit
 }
 
 // Every place zero.

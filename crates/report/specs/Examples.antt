@@ -1,7 +1,7 @@
 -- Numbers and lines and their texts, which proofs/Examples.antt computes. Assumes nothing.
 use mathlib.Core.Path.{_≡_}
 use mathlib.Core.List.{List, [], _∷_, map}
-use Prim.Native.Nat.{ℕ, _-_, _^_}
+use Prim.Native.Nat.{_-_, _^_}
 use Prim.Native.String.{String}
 use lib.IntN.{ℤ, pos, negsuc}
 use Rattle.allocation_file.specs.Bytes.{bytes}

@@ -8,6 +8,8 @@ use lib.Dec.{lit<, leb}
 use lib.IntN.{ℤ, pos, negsuc, negℤ}
 use lib.ListN.{length}
 use lib.Signed.{leZ}
+use Rattle.integers.specs.Lists.{every}
+use Rattle.integers.proofs.Passes.{every-take, every-drop}
 use Rattle.integers.specs.Ranges.{natural}
 use Rattle.integers.proofs.Linear.{not-both}
 use Rattle.integers.proofs.Tests.{and-true}
@@ -15,27 +17,17 @@ use Rattle.rules.specs.declared.Day.{Day}
 use Rattle.rules.specs.declared.HourAnswer.the-variants.{Refused as HourRefused}
 use Rattle.rules.specs.declared.ClosingAnswer.the-variants.{Refused as ClosingRefused}
 use Rattle.rules.specs.declared.HourTerms.{HourTerms}
-use Rattle.rules.specs.Limits.{usersFit, zoneFit, upperFit, lowerFit}
-use Rattle.rules.specs.Days.{users, isClosed}
+use Rattle.rules.specs.Limits.{usersFit, zoneFit, positionFit, upperFit, lowerFit}
+use Rattle.rules.specs.Days.{users, isClosed, firstPlace, part}
 use Rattle.rules.specs.Hours.{Hour, Closing}
-use Rattle.rules.specs.Causes.{hourCause, closingCause, dayFit, tableLong, listLong, scratchLong, hourLong, closingLong, hourNext, allDone, tableFit, termsFit, pricesFit, amountsFit, poolingAdds, beforeFit}
+use Rattle.rules.specs.Causes.{hourCause, closingCause, dayFit, tableLong, listLong, scratchLong, hourLong, closingLong, positionsFit, tableFit, termsFit}
+use Rattle.rules.specs.Refusals.{unless, _then_}
 use Rattle.rules.specs.Answers.{hourAnswer, hourNumber, closingAnswer, closingNumber}
+use Rattle.rules.specs.Guarantees.{HourFit, ClosingFit}
 use Rattle.rules.proofs.Refusing.{unless-none, then-none, by-number}
 use Rattle.rules.proofs.Zones.{Zone, zone-of}
 
 -- ---- an hour is accepted if and only if no listed cause exists
-pub record HourFit (d : Day) (t : List ℤ) (g : Hour) : Type 0 where
-  pub day : dayFit d ≡ true
-  pub lengths : hourLong d t g ≡ true
-  pub zone : zoneFit (g .terms .zone) ≡ true
-  pub open′ : not (isClosed (g .terms .zone) d) ≡ true
-  pub next : hourNext d (g .terms) ≡ true
-  pub table : tableFit d t ≡ true
-  pub terms : termsFit (g .terms) ≡ true
-  pub amounts : amountsFit g ≡ true
-  pub pooling : poolingAdds g ≡ true
-  pub positions : beforeFit d t g ≡ true
-
 module _ (d : Day) (t : List ℤ) (g : Hour) where
   pub hour-fit : hourCause d t g ≡ 0 → HourFit d t g
   unfolding hourCause
@@ -61,20 +53,15 @@ module _ (d : Day) (t : List ℤ) (g : Hour) where
         positions = unless-none _ _ (lit< tt) (then-none k10 .1);
       }
 
+  pub fit-hour : HourFit d t g → hourCause d t g ≡ 0
+  unfolding hourCause unless _then_
+  fit-hour f = rw (f .day, f .lengths, f .zone, f .open′, f .next, f .table, f .terms, f .amounts, f .pooling, f .positions)
+
   pub hour-number : hourNumber (hourAnswer d t g) ≡ hourCause d t g
   unfolding hourNumber hourAnswer
   hour-number = by-number hourNumber _ (λ k. HourRefused (record { number = k; day = d })) refl (λ k. refl) (hourCause d t g)
 
 -- ---- a closing is accepted if and only if no listed cause exists
-pub record ClosingFit (d : Day) (t : List ℤ) (g : Closing) : Type 0 where
-  pub day : dayFit d ≡ true
-  pub lengths : closingLong d t g ≡ true
-  pub zone : zoneFit (g .terms .zone) ≡ true
-  pub open′ : not (isClosed (g .terms .zone) d) ≡ true
-  pub done : allDone d (g .terms) ≡ true
-  pub table : tableFit d t ≡ true
-  pub prices : pricesFit (g .terms .«excess_price») (g .terms .«shortfall_price») ≡ true
-
 module _ (d : Day) (t : List ℤ) (g : Closing) where
   pub closing-fit : closingCause d t g ≡ 0 → ClosingFit d t g
   unfolding closingCause
@@ -93,6 +80,10 @@ module _ (d : Day) (t : List ℤ) (g : Closing) where
         table = unless-none _ _ (lit< tt) (then-none k7 .0);
         prices = unless-none _ _ (lit< tt) (then-none k7 .1);
       }
+
+  pub fit-closing : ClosingFit d t g → closingCause d t g ≡ 0
+  unfolding closingCause unless _then_
+  fit-closing f = rw (f .day, f .lengths, f .zone, f .open′, f .done, f .table, f .prices)
 
   pub closing-number : closingNumber (closingAnswer d t g) ≡ closingCause d t g
   unfolding closingNumber closingAnswer
@@ -174,6 +165,11 @@ unfolding closingLong listLong
 closing-lengths d t g h =
     let l = and-true (listLong d (g .quantity)) (listLong d (g .money)) (and-true (tableLong t) _ h .1) in
     record { quantities = eqb-true _ _ (l .0); moneys = eqb-true _ _ (l .1) }
+
+-- ---- a table that fits has its positions in range, part by part
+pub part-fits : (zone : ℤ) (d : Day) (t : List ℤ) → tableFit d t ≡ true → every positionFit (part zone t) ≡ true
+unfolding tableFit positionsFit part
+part-fits zone d t e = every-take positionFit 128 _ (every-drop positionFit (firstPlace zone) t (and-true (every positionFit t) _ e .0))
 
 -- ---- no threshold is on the wrong side of zero
 pub thresholds-sound : (k : HourTerms) → termsFit k ≡ true → (leZ (pos 0) (k .upper) ≡ true) × (leZ (k .lower) (pos 0) ≡ true)

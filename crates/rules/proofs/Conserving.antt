@@ -1,6 +1,6 @@
 -- Conservation along a list of calls, and a closed zone. Assumes nothing.
 use mathlib.Core.Path.{_≡_, refl, sym, ap, ap₂, _∙_}
-use mathlib.Core.Bool.{Bool, true, false, cond, _||_}
+use mathlib.Core.Bool.{Bool, true, false, cond, _&&_, _||_, or-true, or-false, or-assoc}
 use mathlib.Core.Logic.{_⊎_, inl, inr}
 use mathlib.Core.List.{List, [], _∷_}
 use Prim.Native.Nat.{ℕ, zero, suc, _≤_, _<_}
@@ -11,21 +11,22 @@ use lib.Dec.{eqb, lit<}
 use lib.IntN.{ℤ, pos, _+ℤ_, _-ℤ_, +ℤ-comm}
 use lib.ListN.{length, getD, take, replicate, length-replicate, getD-replicate}
 use lib.Seq.{getD-take, take-at}
-use Rattle.integers.specs.Ranges.{equal, natural}
+use Rattle.integers.specs.Ranges.{equal, isZero, natural}
 use Rattle.integers.proofs.Linear.{lin3, lin4, diffs, linear, not-both}
 use Rattle.integers.proofs.Tests.{and-true, equal-true, equal-false}
 use Rattle.integers.proofs.Counts.{length-tabulate, getD-tabulate}
 use Rattle.rules.specs.declared.Day.{Day}
+use Rattle.rules.specs.declared.ZoneDay.{ZoneDay}
 use Rattle.rules.specs.declared.OpenAnswer.the-variants.{Refused as OpenRefused, Opened}
 use Rattle.rules.specs.Refusals.{byCause}
-use Rattle.rules.specs.Days.{users, isClosed, newDay, dayAfterHour, dayAfterClosing, firstPlace, part, place, onto}
+use Rattle.rules.specs.Days.{users, zoneDay, isClosed, newDay, dayAfterHour, dayAfterClosing, firstPlace, part, place, onto}
 use Rattle.rules.specs.Hours.{Hour, Closing, amounts, before, standing}
 use Rattle.rules.specs.Market.{after}
 use Rattle.rules.specs.Causes.{openCause, hourCause, closingCause}
 use Rattle.rules.specs.Answers.{openAnswer, openTable, hourImbalance, hourAnswer, hourTable, hourQuantity, hourDay, closingAnswer, closingTable, closingQuantity, closingDay}
 use Rattle.rules.specs.History.{Call, hour, closing, State, opened, step, run, hourAccepted, closingAccepted, addsFirst, addsSecond, firstSum, secondSum, closesNow, closes}
 use Rattle.rules.proofs.Refusing.{unless-none, then-none, by-none, by-some, by-ap}
-use Rattle.rules.proofs.Zones.{Zone, H, L, length-part, part-changed, part-other, length-onto, getD-onto, users-kept, closed-hour, closed-closing, closed-still}
+use Rattle.rules.proofs.Zones.{Zone, H, L, length-part, part-changed, part-other, length-onto, getD-onto, users-kept, closed-hour, closed-closing}
 use Rattle.rules.proofs.Accepted.{users-range, hour-sound, closing-sound, hour-number, closing-number}
 use Rattle.rules.proofs.Settling.{length-after, after-at}
 
@@ -199,33 +200,55 @@ unfolding openTable place part firstPlace
 open-zero n t k H p h = rw (by-none _ _ _ k) (getD-replicate 128 p (pos 0) (pos 0) h)
 open-zero n t k L p h = rw (by-none _ _ _ k) (getD-replicate 128 p (pos 0) (pos 0) h)
 
+pub new-open : (zone n : ℤ) → isClosed zone (newDay n) ≡ false
+unfolding newDay isClosed zoneDay
+new-open zone n = go (isZero zone)
+  where
+    go : (b : Bool) → (cond {A = ZoneDay} b (record { hours = pos 0; closed = false }) (record { hours = pos 0; closed = false })) .closed ≡ false
+    go true = refl
+    go false = refl
+
 -- ---- a closed zone
 clash : (d : Day) (y z : ℤ) → isClosed y d ≡ false → isClosed z d ≡ true → y ≡ z → ⊥
 clash d y z f h q = not-both (sym h ∙ ap (λ (x : ℤ). isClosed x d) (sym q) ∙ f)
 
-closed-by : (k : ℕ) (zone : ℤ) (e d : Day) → (k ≡ 0 → isClosed zone e ≡ true) → isClosed zone d ≡ true → isClosed zone (byCause k e d) ≡ true
-unfolding byCause
-closed-by zero zone e d p q = p refl
-closed-by (suc k) zone e d p q = q
+-- the mark of a zone after a call
+marked-step : (zone : ℤ) → Zone zone → (s : State) (c : Call) → isClosed zone (step s c .day) ≡ (isClosed zone (s .day) || closesNow zone s c)
+unfolding step closesNow
+marked-step zone zoned s (hour g) = go (eq-zero-or-pos (hourCause (s .day) (s .table) g))
+  where
+    go : (hourCause (s .day) (s .table) g ≡ 0) ⊎ (0 < hourCause (s .day) (s .table) g) → isClosed zone (hourDay (hourAnswer (s .day) (s .table) g)) ≡ (isClosed zone (s .day) || false)
+    go (inl k) =
+        ap (isClosed zone) (hour-day (s .day) (s .table) g ∙ by-none _ _ _ k)
+        ∙ closed-hour zone (g .terms .zone) (s .day) zoned (hour-sound (s .day) (s .table) g k .zoned) ∙ sym (or-false _)
+    go (inr k) = ap (isClosed zone) (hour-day (s .day) (s .table) g ∙ by-some _ _ _ k) ∙ sym (or-false _)
+marked-step zone zoned s (closing g) = go (eq-zero-or-pos (closingCause (s .day) (s .table) g))
+  where
+    now : Bool → Bool
+    now b = isClosed zone (s .day) || b && equal (g .terms .zone) zone
 
--- stays closed, and its part is as it was
-closed-step : (zone : ℤ) → Zone zone → (s : State) (c : Call) → isClosed zone (s .day) ≡ true
-    → (isClosed zone (step s c .day) ≡ true) × (part zone (step s c .table) ≡ part zone (s .table))
+    go : (closingCause (s .day) (s .table) g ≡ 0) ⊎ (0 < closingCause (s .day) (s .table) g) → isClosed zone (closingDay (closingAnswer (s .day) (s .table) g)) ≡ now (closingAccepted s g)
+    go (inl k) =
+        ap (isClosed zone) (closing-day (s .day) (s .table) g ∙ by-none _ _ _ k)
+        ∙ closed-closing zone (g .terms .zone) (s .day) zoned (closing-sound (s .day) (s .table) g k .zoned) ∙ ap now (sym (closing-accepted s g true (eq-eqb _ 0 k)))
+    go (inr k) =
+        ap (isClosed zone) (closing-day (s .day) (s .table) g ∙ by-some _ _ _ k) ∙ sym (or-false _) ∙ ap now (sym (closing-accepted s g false (some-not-none _ k)))
+
+pub marked-run : (zone : ℤ) → Zone zone → (s : State) (cs : List Call) → isClosed zone (run s cs .day) ≡ (isClosed zone (s .day) || closes zone s cs)
+unfolding run closes
+marked-run zone zoned s [] = sym (or-false _)
+marked-run zone zoned s (c ∷ cs) =
+    marked-run zone zoned (step s c) cs ∙ ap (λ (b : Bool). b || closes zone (step s c) cs) (marked-step zone zoned s c) ∙ or-assoc (isClosed zone (s .day)) (closesNow zone s c) (closes zone (step s c) cs)
+
+-- a closed zone's part is as it was
+closed-step : (zone : ℤ) → Zone zone → (s : State) (c : Call) → isClosed zone (s .day) ≡ true → part zone (step s c .table) ≡ part zone (s .table)
 unfolding step
-closed-step zone zoned s (hour g) h = (
-  ap (isClosed zone) (hour-day (s .day) (s .table) g)
-      ∙ closed-by _ zone _ _ (λ k. closed-hour zone (g .terms .zone) (s .day) zoned (hour-sound (s .day) (s .table) g k .zoned) ∙ h) h,
-  go (eq-zero-or-pos (hourCause (s .day) (s .table) g)),
-)
+closed-step zone zoned s (hour g) h = go (eq-zero-or-pos (hourCause (s .day) (s .table) g))
   where
     go : (hourCause (s .day) (s .table) g ≡ 0) ⊎ (0 < hourCause (s .day) (s .table) g) → part zone (hourTable (s .day) (s .table) g) ≡ part zone (s .table)
     go (inl k) = hour-other (s .day) (s .table) g k zone zoned (clash (s .day) (g .terms .zone) zone (hour-sound (s .day) (s .table) g k .opened) h)
     go (inr k) = ap (part zone) (hour-refused (s .day) (s .table) g k)
-closed-step zone zoned s (closing g) h = (
-  ap (isClosed zone) (closing-day (s .day) (s .table) g)
-      ∙ closed-by _ zone _ _ (λ k. closed-still zone (g .terms .zone) (s .day) zoned (closing-sound (s .day) (s .table) g k .zoned) h) h,
-  go (eq-zero-or-pos (closingCause (s .day) (s .table) g)),
-)
+closed-step zone zoned s (closing g) h = go (eq-zero-or-pos (closingCause (s .day) (s .table) g))
   where
     go : (closingCause (s .day) (s .table) g ≡ 0) ⊎ (0 < closingCause (s .day) (s .table) g) → part zone (closingTable (s .day) (s .table) g) ≡ part zone (s .table)
     go (inl k) = closing-other (s .day) (s .table) g k zone zoned (clash (s .day) (g .terms .zone) zone (closing-sound (s .day) (s .table) g k .opened) h)
@@ -235,25 +258,16 @@ closed-run : (zone : ℤ) → Zone zone → (s : State) (cs : List Call) → isC
 unfolding run
 closed-run zone zoned s [] h = refl
 closed-run zone zoned s (c ∷ cs) h =
-    let p = closed-step zone zoned s c h in
-    closed-run zone zoned (step s c) cs (p .0) ∙ p .1
+    closed-run zone zoned (step s c) cs (marked-step zone zoned s c ∙ ap (λ (b : Bool). b || closesNow zone s c) h) ∙ closed-step zone zoned s c h
 
 -- what an accepted closing leaves
-closed-now : (zone : ℤ) (s : State) (c : Call) → closesNow zone s c ≡ true
-    → (isClosed zone (step s c .day) ≡ true) × ((p : ℕ) → p < 128 → place zone p (step s c .table) ≡ pos 0)
+closed-now : (zone : ℤ) (s : State) (c : Call) → closesNow zone s c ≡ true → (p : ℕ) → p < 128 → place zone p (step s c .table) ≡ pos 0
 unfolding closesNow step
 closed-now zone s (hour g) h = not-both (sym h)
 closed-now zone s (closing g) h = go (eq-zero-or-pos (closingCause (s .day) (s .table) g))
   where
-    go : (closingCause (s .day) (s .table) g ≡ 0) ⊎ (0 < closingCause (s .day) (s .table) g)
-        → (isClosed zone (closingDay (closingAnswer (s .day) (s .table) g)) ≡ true) × ((p : ℕ) → p < 128 → place zone p (closingTable (s .day) (s .table) g) ≡ pos 0)
-    go (inl k) =
-        let e = equal-true (g .terms .zone) zone (and-true (closingAccepted s g) _ h .1) in
-        rw (← e) (
-          ap (isClosed (g .terms .zone)) (closing-day (s .day) (s .table) g ∙ by-none _ _ _ k)
-              ∙ closed-closing (g .terms .zone) (s .day) (closing-sound (s .day) (s .table) g k .zoned),
-          closing-zero (s .day) (s .table) g k,
-        )
+    go : (closingCause (s .day) (s .table) g ≡ 0) ⊎ (0 < closingCause (s .day) (s .table) g) → (p : ℕ) → p < 128 → place zone p (closingTable (s .day) (s .table) g) ≡ pos 0
+    go (inl k) = rw (← equal-true (g .terms .zone) zone (and-true (closingAccepted s g) _ h .1)) (closing-zero (s .day) (s .table) g k)
     go (inr k) = not-both (sym (and-true (closingAccepted s g) _ h .0) ∙ closing-accepted s g false (some-not-none _ k))
 
 pub closed-zero : (zone : ℤ) → Zone zone → (s : State) (cs : List Call) → closes zone s cs ≡ true → (p : ℕ) → p < 128 → place zone p (run s cs .table) ≡ pos 0
@@ -264,6 +278,6 @@ closed-zero zone zoned s (c ∷ cs) h p l = go (closesNow zone s c) refl h (λ k
     go : (b : Bool) → closesNow zone s c ≡ b → (b || closes zone (step s c) cs) ≡ true
         → (closes zone (step s c) cs ≡ true → place zone p (run (step s c) cs .table) ≡ pos 0) → place zone p (run (step s c) cs .table) ≡ pos 0
     go true e k later =
-        let now = closed-now zone s c e in
-        ap (λ (l : List ℤ). getD l p (pos 0)) (closed-run zone zoned (step s c) cs (now .0)) ∙ now .1 p l
+        let closed = marked-step zone zoned s c ∙ ap (λ (b : Bool). isClosed zone (s .day) || b) e ∙ or-true (isClosed zone (s .day)) in
+        ap (λ (l : List ℤ). getD l p (pos 0)) (closed-run zone zoned (step s c) cs closed) ∙ closed-now zone s c e p l
     go false e k later = later k

@@ -1,6 +1,6 @@
 -- The theorems of specs/Guarantees.antt. Assumes nothing.
 use mathlib.Core.Path.{_≡_, sym, ap, _∙_, subst}
-use mathlib.Core.Bool.{false}
+use mathlib.Core.Bool.{Bool, false, _||_}
 use mathlib.Core.Logic.{_⊎_, inl, inr}
 use mathlib.Core.List.{List}
 use Prim.Native.Nat.{ℕ, _≤_, _<_}
@@ -16,19 +16,25 @@ use Rattle.rules.specs.declared.Marks.{Marks}
 use Rattle.rules.specs.declared.Side.{Side}
 use Rattle.rules.specs.declared.Outcome.the-variants.{Settled}
 use Rattle.rules.specs.declared.HourAnswer.the-variants.{Refused as HourRefused, Done}
-use Rattle.rules.specs.Days.{users, newDay, dayAfterHour}
+use Rattle.rules.specs.Days.{users, zoneDay, isClosed, newDay, dayAfterHour}
 use Rattle.rules.specs.Hours.{before}
 use Rattle.rules.specs.Market.{Imbalance, within, excess, shortfall, caused, causers, marks, outcome}
 use Rattle.rules.specs.Causes.{hourCause, beforeFit}
 use Rattle.rules.specs.Answers.{hourAnswer, hourImbalance, hourQuantity}
-use Rattle.rules.specs.History.{opened, firstSum}
-use Rattle.rules.specs.Guarantees.{Conservation, ClosedIsZero, Accuracy, marked, MarksAreCausers}
+use Rattle.rules.specs.History.{opened, firstSum, closes}
+use Rattle.rules.specs.Guarantees.{AcceptedIfFit, Conservation, ClosedIsZero, ClosedIsMarked, Accuracy, marked, MarksAreCausers}
 use Rattle.rules.proofs.Refusing.{by-none, by-some}
 use Rattle.rules.proofs.Zones.{zone-of}
-use Rattle.rules.proofs.Accepted.{hour-fit, hour-sound, hour-number, thresholds-sound}
+use Rattle.rules.proofs.Accepted.{hour-fit, fit-hour, hour-sound, hour-number, closing-fit, fit-closing, closing-number, thresholds-sound}
 use Rattle.rules.proofs.Marking.{marked-at, marks-number}
 use Rattle.rules.proofs.Settling.{settles}
-use Rattle.rules.proofs.Conserving.{length-before, positions-left, balance, opened-by, open-users, open-zero, closed-zero}
+use Rattle.rules.proofs.Conserving.{length-before, positions-left, balance, opened-by, open-users, open-zero, new-open, marked-run, closed-zero}
+
+pub accepted-if-fit : AcceptedIfFit
+accepted-if-fit = (
+  λ d t g. (λ e. hour-fit d t g (sym (hour-number d t g) ∙ e), λ f. hour-number d t g ∙ fit-hour d t g f),
+  λ d t g. (λ e. closing-fit d t g (sym (closing-number d t g) ∙ e), λ f. closing-number d t g ∙ fit-closing d t g f),
+)
 
 pub conservation : Conservation
 unfolding opened users newDay
@@ -42,6 +48,12 @@ conservation n t d e calls zone z user h =
 
 pub closed-is-zero : ClosedIsZero
 closed-is-zero s calls zone z c p h = closed-zero zone (zone-of zone z) s calls c p h
+
+pub closed-is-marked : ClosedIsMarked
+unfolding opened newDay isClosed zoneDay
+closed-is-marked n t d e calls zone z =
+    marked-run zone (zone-of zone z) (opened d n t) calls
+    ∙ ap (λ (b : Bool). b || closes zone (opened d n t) calls) (ap (isClosed zone) (opened-by n t d e .1) ∙ new-open zone n)
 
 pub accuracy : Accuracy
 unfolding hourImbalance hourQuantity beforeFit

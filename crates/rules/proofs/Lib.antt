@@ -4,8 +4,9 @@ mod Lookup
 pub mod Refusing
 pub mod Zones
 pub mod Accepted
+pub mod Small
 pub mod Marking
 pub mod Settling
-mod Conserving
+pub mod Conserving
 pub mod Guarantees
 mod Examples

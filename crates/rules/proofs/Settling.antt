@@ -6,7 +6,7 @@ use Prim.Native.Nat.{ℕ, zero, suc, _+_, _*_, _≤_, _<_}
 use native.Mathlib.Omega.{arith}
 use native.Mathlib.Nat.{le-refl}
 use borrow.Author.Tests.{ltb-true, ltb-false, le-ltb, le-leb, leb-true}
-use lib.Dec.{ltb, lit≤}
+use lib.Dec.{ltb}
 use lib.IntN.{ℤ, pos, negsuc, natAbs, negℤ, _+ℤ_, _-ℤ_, +ℤ-idr, negℤ-+ℤ}
 use lib.ListN.{length, getD, length-map, List·getD-eq-default}
 use lib.Signed.{ltZ, leZ}
@@ -14,7 +14,7 @@ use Rattle.integers.specs.Ranges.{natural}
 use Rattle.integers.specs.Lists.{sum, sumℤ, every}
 use Rattle.integers.proofs.Linear.{lin1, lin2, lin3, lin4, diffs, linear, not-both}
 use Rattle.integers.proofs.Sizes.{size-neg}
-use Rattle.integers.proofs.Tests.{both-true, range-size, le-of-test, test-of-le}
+use Rattle.integers.proofs.Tests.{both-true, le-of-test, test-of-le}
 use Rattle.integers.proofs.Counts.{getD-map}
 use Rattle.integers.proofs.Sums.{sum-zip-sub, length-zip, getD-zip}
 use Rattle.integers.proofs.Passes.{every-at}
@@ -23,6 +23,7 @@ use Rattle.apportionment.proofs.Guarantees.{adds-up, accurate, no-more-than-siz
 use Rattle.rules.specs.Limits.{positionFit}
 use Rattle.rules.specs.Market.{Imbalance, within, excess, shortfall, imbalanceOf, imbalance, total, caused, size, sizes, settledSizes, signed, quantities, after}
 use Rattle.rules.specs.Guarantees.{UserAccurate, Accurate}
+use Rattle.rules.proofs.Small.{position-small}
 
 -- ---- rule 2, by its three cases
 pub data View (upper lower market : ℤ) : Imbalance → Type 0 where
@@ -204,10 +205,6 @@ market-after upper lower ps top bottom (is-shortfall {n = n} a b) =
 -- ---- one user
 
 -- a position in range, by its size
-pub position-size : (p : ℤ) → positionFit p ≡ true → natAbs p ≤ 100_000_000
-unfolding positionFit
-position-size p e = range-size 100_000_000 (negℤ (pos 100_000_000)) (pos 100_000_000) p (lit≤ tt) (lit≤ tt) e
-
 position-fit : (p : ℤ) → natAbs p ≤ 100_000_000 → positionFit p ≡ true
 unfolding positionFit
 position-fit p h = both-true (low p h) (high p h)
@@ -286,7 +283,7 @@ user-accurate i S p q uncaused sign near fit left = record {
   rest = refl;
   not-below-zero = λ h. le-of-test (left .above (test-of-le h));
   not-above-zero = λ h. le-of-test (left .below (test-of-le h));
-  in-range = position-fit (p -ℤ q) (omega (arith, left .smaller, position-size p fit));
+  in-range = position-fit (p -ℤ q) (omega (arith, left .smaller, position-small p fit));
 }
 
 module _ (S n : ℕ) (p : ℤ) (fit : positionFit p ≡ true) where

@@ -1,6 +1,6 @@
 -- The two zones: their parts of the table, and their parts of the record. Assumes nothing.
 use mathlib.Core.Path.{_≡_, refl, sym, ap, _∙_}
-use mathlib.Core.Bool.{Bool, true, false, cond}
+use mathlib.Core.Bool.{Bool, true, false, cond, _||_, or-true, or-false}
 use mathlib.Core.List.{List, _++_}
 use Prim.Native.Nat.{ℕ, zero, suc, _≤_, _<_}
 use native.Mathlib.Omega.{arith}
@@ -8,8 +8,8 @@ use borrow.Author.Tests.{leb-true}
 use lib.Dec.{leb}
 use lib.IntN.{ℤ, pos, negsuc}
 use lib.ListN.{length, getD, take, drop, length-append, length-take, length-drop, List·getD-append}
-use lib.Seq.{take-at, drop-at, length-take-le}
-use Rattle.integers.specs.Ranges.{isZero}
+use lib.Seq.{take-at, drop-at, drop-drop, length-take-le}
+use Rattle.integers.specs.Ranges.{equal, isZero}
 use Rattle.integers.proofs.Linear.{not-both}
 use Rattle.integers.proofs.Tests.{and-true}
 use Rattle.rules.specs.declared.Day.{Day}
@@ -29,6 +29,25 @@ zone-of (pos (suc (suc n))) e = absurd (omega (arith, leb-true (suc (suc n)) 1 (
 zone-of (negsuc n) e = not-both (sym e)
 
 -- ---- the table
+
+-- a zone's part, by the test of the zone, and the table with the part changed
+module _ (zone : ℤ) (t : List ℤ) where
+  pub part-h : isZero zone ≡ true → part zone t ≡ take 128 t
+  unfolding part firstPlace
+  part-h e = rw e
+
+  pub part-l : isZero zone ≡ false → part zone t ≡ take 128 (drop 128 t)
+  unfolding part firstPlace
+  part-l e = rw e
+
+  pub with-h : (f : List ℤ → List ℤ) → isZero zone ≡ true → withPart zone f t ≡ f (take 128 t) ++ drop 128 t
+  unfolding withPart part firstPlace
+  with-h f e = rw e
+
+  pub with-l : (f : List ℤ → List ℤ) → isZero zone ≡ false → withPart zone f t ≡ take 128 t ++ (f (take 128 (drop 128 t)) ++ drop 128 (drop 128 t))
+  unfolding withPart part firstPlace
+  with-l f e = rw (e, drop-drop 128 128 t)
+
 module _ (t : List ℤ) (long : length t ≡ 256) where
   pub length-part : {z : ℤ} → Zone z → length (part z t) ≡ 128
   unfolding part firstPlace
@@ -72,7 +91,7 @@ users-kept z f d = go (isZero z)
     go true = refl
     go false = refl
 
--- a closed zone stays closed, and a closing closes its zone
+-- an hour leaves the marks of both zones, and a closing marks its zone
 pub closed-hour : (y z : ℤ) (d : Day) → Zone y → Zone z → isClosed y (dayAfterHour z d) ≡ isClosed y d
 unfolding dayAfterHour hourMore withZoneDay isClosed zoneDay
 closed-hour y z d H H = refl
@@ -80,14 +99,9 @@ closed-hour y z d H L = refl
 closed-hour y z d L H = refl
 closed-hour y z d L L = refl
 
-pub closed-closing : (z : ℤ) (d : Day) → Zone z → isClosed z (dayAfterClosing z d) ≡ true
+pub closed-closing : (y z : ℤ) (d : Day) → Zone y → Zone z → isClosed y (dayAfterClosing z d) ≡ (isClosed y d || equal z y)
 unfolding dayAfterClosing closedNow withZoneDay isClosed zoneDay
-closed-closing z d H = refl
-closed-closing z d L = refl
-
-pub closed-still : (y z : ℤ) (d : Day) → Zone y → Zone z → isClosed y d ≡ true → isClosed y (dayAfterClosing z d) ≡ true
-unfolding dayAfterClosing closedNow withZoneDay isClosed zoneDay
-closed-still y z d H H e = refl
-closed-still y z d H L e = e
-closed-still y z d L H e = e
-closed-still y z d L L e = refl
+closed-closing y z d H H = sym (or-true (d .h .closed))
+closed-closing y z d H L = sym (or-false (d .h .closed))
+closed-closing y z d L H = sym (or-false (d .l .closed))
+closed-closing y z d L L = sym (or-true (d .l .closed))

@@ -1,6 +1,6 @@
--- Demand 3: what is proved of the definitions, for every input. The proofs are in proofs/Guarantees.antt. Assumes nothing.
+-- Demands 2 and 3: what is proved of the definitions, for every input. The proofs are in proofs/Guarantees.antt. Assumes nothing.
 use mathlib.Core.Path.{_≡_}
-use mathlib.Core.Bool.{Bool, true, false, cond}
+use mathlib.Core.Bool.{Bool, true, false, not, cond}
 use mathlib.Core.List.{List, map}
 use Prim.Native.Nat.{ℕ, _+_, _-_, _*_, _/_, _%_, _^_, _<_}
 use lib.Dec.{eqb, ltb}
@@ -16,11 +16,42 @@ use Rattle.rules.specs.declared.OpenAnswer.the-variants.{Opened}
 use Rattle.rules.specs.declared.HourAnswer.the-variants.{Done}
 use Rattle.rules.specs.declared.Outcome.the-variants.{Settled}
 use Rattle.rules.specs.Limits.{zoneFit, positionFit}
-use Rattle.rules.specs.Days.{users, part, place}
-use Rattle.rules.specs.Hours.{Hour, before}
+use Rattle.rules.specs.Days.{users, isClosed, part, place}
+use Rattle.rules.specs.Hours.{Hour, Closing, before}
+use Rattle.rules.specs.Causes.{dayFit, hourLong, closingLong, hourNext, allDone, tableFit, pricesFit, termsFit, amountsFit, poolingAdds, beforeFit}
 use Rattle.rules.specs.Market.{Imbalance, total, caused, sizes, signed}
-use Rattle.rules.specs.Answers.{openAnswer, hourAnswer, hourNumber, hourTable, hourQuantity, hourImbalance}
+use Rattle.rules.specs.Answers.{openAnswer, hourAnswer, hourNumber, hourTable, hourQuantity, hourImbalance, closingAnswer, closingNumber}
 use Rattle.rules.specs.History.{State, Call, opened, run, firstSum, secondSum, closes}
+
+-- ---- demand 2: "an hour or closing is accepted if and only if no listed cause exists"
+
+-- no cause of an hour exists: each test of the causes 2 to 11 holds
+pub record HourFit (d : Day) (t : List ℤ) (g : Hour) : Type 0 where
+  pub day : dayFit d ≡ true
+  pub lengths : hourLong d t g ≡ true
+  pub zone : zoneFit (g .terms .zone) ≡ true
+  pub open′ : not (isClosed (g .terms .zone) d) ≡ true
+  pub next : hourNext d (g .terms) ≡ true
+  pub table : tableFit d t ≡ true
+  pub terms : termsFit (g .terms) ≡ true
+  pub amounts : amountsFit g ≡ true
+  pub pooling : poolingAdds g ≡ true
+  pub positions : beforeFit d t g ≡ true
+
+-- no cause of a closing exists: each test of the causes 2 to 8 holds
+pub record ClosingFit (d : Day) (t : List ℤ) (g : Closing) : Type 0 where
+  pub day : dayFit d ≡ true
+  pub lengths : closingLong d t g ≡ true
+  pub zone : zoneFit (g .terms .zone) ≡ true
+  pub open′ : not (isClosed (g .terms .zone) d) ≡ true
+  pub done : allDone d (g .terms) ≡ true
+  pub table : tableFit d t ≡ true
+  pub prices : pricesFit (g .terms .«excess_price») (g .terms .«shortfall_price») ≡ true
+
+abbrev pub AcceptedIfFit : Type 0
+AcceptedIfFit =
+    ((d : Day) (t : List ℤ) (g : Hour) → (hourNumber (hourAnswer d t g) ≡ 0 → HourFit d t g) × (HourFit d t g → hourNumber (hourAnswer d t g) ≡ 0))
+    × ((d : Day) (t : List ℤ) (g : Closing) → (closingNumber (closingAnswer d t g) ≡ 0 → ClosingFit d t g) × (ClosingFit d t g → closingNumber (closingAnswer d t g) ≡ 0))
 
 -- ---- "no kilowatt-hour appears or vanishes (one theorem about the list)"
 
@@ -38,6 +69,12 @@ abbrev pub ClosedIsZero : Type 0
 ClosedIsZero =
     (s : State) (calls : List Call) (zone : ℤ) → zoneFit zone ≡ true → closes zone s calls ≡ true
     → (p : ℕ) → p < 128 → place zone p (run s calls .table) ≡ pos 0
+
+-- On a day that opening opened, the record marks a zone closed exactly where its closing was accepted.
+abbrev pub ClosedIsMarked : Type 0
+ClosedIsMarked =
+    (n : ℤ) (t : List ℤ) (d : Day) → openAnswer n t ≡ Opened d
+    → (calls : List Call) (zone : ℤ) → zoneFit zone ≡ true → isClosed zone (run (opened d n t) calls .day) ≡ closes zone (opened d n t) calls
 
 -- ---- "For any accepted hour: the market after it is within that hour's thresholds, who did not cause has quantity 0, who did is settled by rules 4 and 5, less than 1 kWh
 -- from the exact share."

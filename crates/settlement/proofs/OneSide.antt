@@ -16,6 +16,7 @@ use Rattle.rules.specs.declared.HourTerms.{HourTerms}
 use Rattle.rules.specs.declared.Marks.{Marks}
 use Rattle.rules.specs.Market.{excess, shortfall, total, caused, size, sizes, settledSizes, signed, quantities, after, moneyOf, moneys, marks, causers}
 use Rattle.rules.proofs.Settling.{length-sizes, length-quantities}
+use Rattle.rules.proofs.Small.{positions-small, terms-small}
 use Rattle.settlement.specs.Steps.{side, turn, priceOn, Booked, SideAsks, SideLeaves}
 use Rattle.settlement.proofs.Turning.{at-most-pos}
 
@@ -96,15 +97,15 @@ module _ {up : Bool} {n : ℕ} {ps : List ℤ} {k : HourTerms} {q m : List ℤ} 
           rw settled-are (at-most-pos (settled (sizes (side up n) ps) n) (λ j. omega (arith, no-more-than-size (sizes (side up n) ps) n (i .some) (i .within) j, i .small j)))
 
       pub book-asked : (length w ≡ length ps) × (length m ≡ length ps) × AtMost 100_000_000 ps × AtMost 100_000_000 w
-      book-asked = (settled-length, a .moneys, a .positions, settled-small)
+      book-asked = (settled-length, a .moneys, positions-small ps (a .positions), settled-small)
 
       pub price-small : natAbs (priceOn up k) ≤ 10_000_000
       unfolding priceOn
       price-small = go up
         where
           go : (b : Bool) → natAbs (cond b (k .«excess_price») (k .«shortfall_price»)) ≤ 10_000_000
-          go true = a .terms .excess
-          go false = a .terms .shortfall
+          go true = terms-small k (a .terms) .prices .excess
+          go false = terms-small k (a .terms) .prices .shortfall
 
       pub side-left : (ps' q' m' : List ℤ) (s' : List ℕ) (r : Marks) → Booked up (priceOn up k) ps ps' w q' m'
           → s' ≡ replicate (length z) 0 → length z ≡ length s → r ≡ marks (causers (side up 0) ps) → SideLeaves up n ps ps' k q' m' s s' r

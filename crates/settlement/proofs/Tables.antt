@@ -1,23 +1,25 @@
 -- What the zone's and the table's settlement have to show: the users' places are the first of the part, and the part is the zone's. Assumes nothing.
-use mathlib.Core.Path.{_≡_, ap, ap₂, _∙_}
+use mathlib.Core.Path.{_≡_, ap, _∙_}
 use mathlib.Core.Bool.{true, false}
 use mathlib.Core.List.{List, _++_}
 use Prim.Native.Nat.{ℕ}
 use native.Mathlib.Omega.{arith}
 use lib.IntN.{ℤ, pos, _+ℤ_}
 use lib.ListN.{length, getD, take, drop, length-take}
-use lib.Seq.{getD-take, drop-drop}
+use lib.Seq.{getD-take}
 use Rattle.integers.specs.Ranges.{isZero}
 use Rattle.integers.proofs.Counts.{tabulate-ext}
-use Rattle.integers.proofs.Sums.{at-most-take}
+use Rattle.integers.proofs.Passes.{every-take}
 use Rattle.rules.specs.declared.HourTerms.{HourTerms}
 use Rattle.rules.specs.declared.Outcome.{Outcome}
-use Rattle.rules.specs.Days.{firstPlace, part, withPart, onto}
+use Rattle.rules.specs.Limits.{positionFit}
+use Rattle.rules.specs.Days.{onto}
 use Rattle.rules.specs.Market.{imbalance}
 use Rattle.rules.proofs.Settling.{length-after}
-use Rattle.positions.specs.Before.{beforeAt, befores, Amounts}
+use Rattle.rules.proofs.Zones.{part-h, part-l, with-h, with-l}
+use Rattle.positions.specs.Before.{beforeAt, befores, Lent}
 use Rattle.positions.proofs.Before.{length-befores}
-use Rattle.settlement.specs.Steps.{Asks, afters, UsersLeave, ZoneLeaves, TableAsks, TableLeaves}
+use Rattle.settlement.specs.Steps.{Asks, afters, UsersLeave, ZoneLeaves, TableLeaves}
 
 -- ---- the users' places of a part
 module _ (p e x t i : List ℤ) where
@@ -30,8 +32,8 @@ module _ (p e x t i : List ℤ) where
     pub users-asked : (q m : List ℤ) (s : List ℕ) → Asks p e x t i k q m s → (n : ℕ) → n ≡ length e → (length (take n p) ≡ length e) × Asks (take n p) e x t i k q m s
     users-asked q m s a n en = rw en (long, asks)
       where
-        b : Amounts p e x t i
-        b = a .amounts
+        b : Lent p e x t i
+        b = a .amounts .lent
 
         long : length (take (length e) p) ≡ length e
         long = simp length-take (omega (arith, b .room))
@@ -39,17 +41,16 @@ module _ (p e x t i : List ℤ) where
         asks : Asks (take (length e) p) e x t i k q m s
         asks = record {
           amounts = record {
-            exits = b .exits;
-            titles = b .titles;
-            poolings = b .poolings;
-            room = omega (arith, long);
-            position = at-most-take (length e) p (b .position);
-            entry = b .entry;
-            exit = b .exit;
-            title = b .title;
-            pooling = b .pooling;
+            lent = record {
+              exits = b .exits;
+              titles = b .titles;
+              poolings = b .poolings;
+              few = b .few;
+              room = omega (arith, long);
+              positions = every-take positionFit (length e) p (b .positions);
+            };
+            fit = a .amounts .fit;
           };
-          few = a .few;
           positions = rw befores-take (a .positions);
           terms = a .terms;
           quantities = a .quantities;
@@ -69,22 +70,11 @@ module _ (p e x t i : List ℤ) where
             record { lists = rw befores-take at (v .lists); places = rw l (ap (λ (y : List ℤ). y ++ drop (length e) p) (rw befores-take at (v .places))) }
 
 -- ---- the zone's part of the table
-module _ (tb e x t i : List ℤ) (k : HourTerms) where
-  pub part-h : (q m : List ℤ) (s : List ℕ) → isZero (k .zone) ≡ true → TableAsks tb e x t i k q m s → Asks (take 128 tb) e x t i k q m s
-  unfolding part firstPlace
-  part-h q m s z a = rw z at (a .lists)
+module _ (tb e x t i : List ℤ) (k : HourTerms) (p' q' m' : List ℤ) (s s' : List ℕ) (r : Outcome) where
+  pub left-h : isZero (k .zone) ≡ true → ZoneLeaves (take 128 tb) p' e x t i k q' m' s s' r → TableLeaves tb (p' ++ drop 128 tb) e x t i k q' m' s s' r
+  left-h z v = record { lists = rw (part-h (k .zone) tb z) (v .lists); table = rw (with-h (k .zone) tb _ z, part-h (k .zone) tb z) (ap (λ (l : List ℤ). l ++ drop 128 tb) (v .places)) }
 
-  pub part-l : (q m : List ℤ) (s : List ℕ) → isZero (k .zone) ≡ false → TableAsks tb e x t i k q m s → Asks (take 128 (drop 128 tb)) e x t i k q m s
-  unfolding part firstPlace
-  part-l q m s z a = rw z at (a .lists)
-
-  pub left-h : (p' q' m' : List ℤ) (s s' : List ℕ) (r : Outcome) → isZero (k .zone) ≡ true → ZoneLeaves (take 128 tb) p' e x t i k q' m' s s' r
-      → TableLeaves tb (p' ++ drop 128 tb) e x t i k q' m' s s' r
-  unfolding part firstPlace withPart
-  left-h p' q' m' s s' r z v = record { lists = rw z (v .lists); table = rw z (ap (λ (l : List ℤ). l ++ drop 128 tb) (v .places)) }
-
-  pub left-l : (p' q' m' : List ℤ) (s s' : List ℕ) (r : Outcome) → isZero (k .zone) ≡ false → ZoneLeaves (take 128 (drop 128 tb)) p' e x t i k q' m' s s' r
+  pub left-l : isZero (k .zone) ≡ false → ZoneLeaves (take 128 (drop 128 tb)) p' e x t i k q' m' s s' r
       → TableLeaves tb (take 128 tb ++ (p' ++ drop 128 (drop 128 tb))) e x t i k q' m' s s' r
-  unfolding part firstPlace withPart
-  left-l p' q' m' s s' r z v =
-      record { lists = rw z (v .lists); table = rw z (ap₂ (λ (l r : List ℤ). take 128 tb ++ (l ++ r)) (v .places) (drop-drop 128 128 tb)) }
+  left-l z v =
+      record { lists = rw (part-l (k .zone) tb z) (v .lists); table = rw (with-l (k .zone) tb _ z, part-l (k .zone) tb z) (ap (λ (l : List ℤ). take 128 tb ++ (l ++ drop 128 (drop 128 tb))) (v .places)) }

@@ -11,7 +11,7 @@ use lib.Signed.{ltZ}
 use Rattle.integers.specs.Ranges.{natural}
 use Rattle.integers.specs.Lists.{bit, AtMost}
 use Rattle.integers.proofs.Sizes.{size-neg}
-use Rattle.integers.proofs.Sums.{at-most-cons, at-most-tail}
+use Rattle.integers.proofs.Sums.{at-most-cons}
 use Rattle.rules.specs.Market.{caused, size}
 use Rattle.rules.proofs.Settling.{size-excess, size-shortfall}
 use Rattle.settlement.specs.Steps.{side, turn}
@@ -32,7 +32,7 @@ below-neg (pos zero) = refl
 below-neg (pos (suc n)) = sym (le-ltb (suc n) 0 (omega arith))
 below-neg (negsuc n) = lt-ltb 0 (suc n) (omega arith)
 
-pub caused-turn : (up : Bool) (x : ℤ) → ltZ (pos 0) (turn up x) ≡ caused (side up 0) x
+caused-turn : (up : Bool) (x : ℤ) → ltZ (pos 0) (turn up x) ≡ caused (side up 0) x
 unfolding turn side caused
 caused-turn true x = refl
 caused-turn false x = below-neg x
@@ -41,11 +41,7 @@ caused-turn false x = below-neg x
 pub mark-turn : (up : Bool) (x : ℤ) (b : Bool) → ltZ (pos 0) (turn up x) ≡ b → bit b ≡ bit (caused (side up 0) x)
 mark-turn up x b e = ap bit (sym e ∙ caused-turn up x)
 
--- lists of bounded numbers
-pub at-most-turn : {n : ℕ} (up : Bool) (xs : List ℤ) → AtMost n xs → AtMost n (map (turn up) xs)
-at-most-turn up [] s = s
-at-most-turn up (x ∷ xs) s = at-most-cons (omega (arith, size-turn up x, s .at 0)) (at-most-turn up xs (at-most-tail s))
-
+-- a list of bounded numbers
 pub at-most-pos : {n : ℕ} (ns : List ℕ) → ((i : ℕ) → getD ns i 0 ≤ n) → AtMost n (map pos ns)
 at-most-pos [] h = record { at = λ i. zero-le }
 at-most-pos (x ∷ xs) h = at-most-cons (h 0) (at-most-pos xs (λ i. h (suc i)))

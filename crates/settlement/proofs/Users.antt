@@ -23,15 +23,18 @@ use Rattle.rules.specs.Market.{Imbalance, within, imbalanceOf, imbalance, total
 use Rattle.rules.proofs.Settling.{gap, length-sizes, length-quantities, Shareable, share-excess, share-shortfall}
 use Rattle.positions.specs.Before.{befores}
 use Rattle.positions.proofs.Before.{length-befores}
-use Rattle.settlement.specs.Steps.{side, TermsSmall, SideAsks, SideLeaves, Asks, UsersLeave}
+use Rattle.rules.specs.Causes.{termsFit}
+use Rattle.rules.proofs.Accepted.{thresholds-sound}
+use Rattle.rules.proofs.Small.{positions-small, terms-small}
+use Rattle.settlement.specs.Steps.{side, SideAsks, SideLeaves, Asks, UsersLeave}
 
 -- a threshold is read back from its bits
-module _ {k : HourTerms} (b : TermsSmall k) where
+module _ (k : HourTerms) (b : termsFit k ≡ true) where
   pub upper-back : toZ w64 (ofZ w64 (k .upper)) ≡ k .upper
-  upper-back = read (fits (k .upper) (omega (arith, b .upper)))
+  upper-back = read (fits (k .upper) (omega (arith, terms-small k b .upper)))
 
   pub lower-back : toZ w64 (ofZ w64 (k .lower)) ≡ k .lower
-  lower-back = read (fits (k .lower) (omega (arith, b .lower)))
+  lower-back = read (fits (k .lower) (omega (arith, terms-small k b .lower)))
 
 -- ---- an hour within its thresholds settles nothing
 nothing : (ns : List ℕ) → map (signed within) ns ≡ replicate (length ns) (pos 0)
@@ -74,10 +77,10 @@ module _ {p e x t i : List ℤ} {k : HourTerms} {q m : List ℤ} {s : List ℕ} 
   z-long = ap length ez ∙ length-befores p e x t i
 
   z-small : AtMost 100_000_000 z
-  z-small = rw ez (a .positions)
+  z-small = rw ez (positions-small (befores p e x t i) (a .positions))
 
   pub sum-asked : (length z ≤ 128) × AtMost 100_000_000 z
-  sum-asked = (omega (arith, z-long, a .few), z-small)
+  sum-asked = (omega (arith, z-long, a .amounts .lent .few), z-small)
 
   module _ (market : ℤ) (em : market ≡ sumℤ z) where
     market-small : natAbs market ≤ 12_800_000_000
@@ -94,7 +97,7 @@ module _ {p e x t i : List ℤ} {k : HourTerms} {q m : List ℤ} {s : List ℕ} 
         some = sh .some;
         within = omega (arith, sh .enough);
       };
-      positions = z-small;
+      positions = rw ez (a .positions);
       terms = a .terms;
       quantities = a .quantities ∙ sym z-long;
       moneys = a .moneys ∙ sym z-long;
@@ -116,11 +119,11 @@ module _ {p e x t i : List ℤ} {k : HourTerms} {q m : List ℤ} {s : List ℕ} 
     -- an excess
     module _ (h : ltZ (k .upper) market ≡ true) where
       pub excess-gap : (ltZ (k .upper) market ≡ true) × (natAbs (k .upper) ≤ 12_800_000_000) × (natAbs market ≤ 12_800_000_000)
-      excess-gap = (h, omega (arith, a .terms .upper), market-small)
+      excess-gap = (h, omega (arith, terms-small k (a .terms) .upper), market-small)
 
       module _ (n : ℕ) (en : n ≡ natAbs (market -ℤ k .upper)) where
         pub excess-fits : n ≤ 25_600_000_000
-        excess-fits = omega (arith, size-sub market (k .upper), a .terms .upper, market-small)
+        excess-fits = omega (arith, size-sub market (k .upper), terms-small k (a .terms) .upper, market-small)
 
         excess-is : imbalance (k .upper) (k .lower) z ≡ side true n
         unfolding imbalance imbalanceOf side
@@ -130,7 +133,7 @@ module _ {p e x t i : List ℤ} {k : HourTerms} {q m : List ℤ} {s : List ℕ} 
         unfolding side total
         excess-asked =
             let d : pos n ≡ sumℤ z -ℤ k .upper = ap pos en ∙ gap (k .upper) market h ∙ ap (λ (y : ℤ). y -ℤ k .upper) em in
-            asked true n refl (share-excess (k .upper) (k .lower) z (a .terms .top) (a .terms .bottom) n (rw em at h) d)
+            asked true n refl (share-excess (k .upper) (k .lower) z (thresholds-sound k (a .terms) .0) (thresholds-sound k (a .terms) .1) n (rw em at h) d)
 
         pub excess-left : (z' q' m' : List ℤ) (s' : List ℕ) (r : Marks) → SideLeaves true n z z' k q' m' s s' r → UsersLeave p z' e x t i k q' m' s s' (Settled (Excess (pos n)) r)
         unfolding side outcome
@@ -139,11 +142,11 @@ module _ {p e x t i : List ℤ} {k : HourTerms} {q m : List ℤ} {s : List ℕ} 
     -- a shortfall
     module _ (not-above : ltZ (k .upper) market ≡ false) (h : ltZ market (k .lower) ≡ true) where
       pub shortfall-gap : (ltZ market (k .lower) ≡ true) × (natAbs market ≤ 12_800_000_000) × (natAbs (k .lower) ≤ 12_800_000_000)
-      shortfall-gap = (h, market-small, omega (arith, a .terms .lower))
+      shortfall-gap = (h, market-small, omega (arith, terms-small k (a .terms) .lower))
 
       module _ (n : ℕ) (en : n ≡ natAbs (k .lower -ℤ market)) where
         pub shortfall-fits : n ≤ 25_600_000_000
-        shortfall-fits = omega (arith, size-sub (k .lower) market, a .terms .lower, market-small)
+        shortfall-fits = omega (arith, size-sub (k .lower) market, terms-small k (a .terms) .lower, market-small)
 
         shortfall-is : imbalance (k .upper) (k .lower) z ≡ side false n
         unfolding imbalance imbalanceOf side
@@ -153,7 +156,7 @@ module _ {p e x t i : List ℤ} {k : HourTerms} {q m : List ℤ} {s : List ℕ} 
         unfolding side total
         shortfall-asked =
             let d : pos n ≡ k .lower -ℤ sumℤ z = ap pos en ∙ gap market (k .lower) h ∙ ap (λ (y : ℤ). k .lower -ℤ y) em in
-            asked false n refl (share-shortfall (k .upper) (k .lower) z (a .terms .top) (a .terms .bottom) n (rw em at h) d)
+            asked false n refl (share-shortfall (k .upper) (k .lower) z (thresholds-sound k (a .terms) .0) (thresholds-sound k (a .terms) .1) n (rw em at h) d)
 
         pub shortfall-left : (z' q' m' : List ℤ) (s' : List ℕ) (r : Marks) → SideLeaves false n z z' k q' m' s s' r → UsersLeave p z' e x t i k q' m' s s' (Settled (Shortfall (pos n)) r)
         unfolding side outcome

@@ -2,17 +2,18 @@
 use mathlib.Core.Path.{_≡_}
 use mathlib.Core.Bool.{Bool, true, false, cond}
 use mathlib.Core.List.{List, map, zipWith}
-use Prim.Native.Nat.{ℕ, _≤_}
-use lib.IntN.{ℤ, pos, natAbs, negℤ, _-ℤ_, _*ℤ_}
+use Prim.Native.Nat.{ℕ}
+use lib.IntN.{ℤ, negℤ, _-ℤ_, _*ℤ_}
 use lib.ListN.{length, replicate}
-use lib.Signed.{leZ}
-use Rattle.integers.specs.Lists.{AtMost}
+use Rattle.integers.specs.Lists.{every}
 use Rattle.apportionment.specs.Steps.{Input}
 use Rattle.rules.specs.declared.HourTerms.{HourTerms}
 use Rattle.rules.specs.declared.Marks.{Marks}
 use Rattle.rules.specs.declared.Outcome.{Outcome}
+use Rattle.rules.specs.Limits.{positionFit}
 use Rattle.rules.specs.Days.{part, withPart, onto}
 use Rattle.rules.specs.Market.{Imbalance, excess, shortfall, imbalance, sizes, quantities, after, moneys, outcome, marks, causers}
+use Rattle.rules.specs.Causes.{termsFit}
 use Rattle.positions.specs.Before.{befores, Amounts}
 
 -- ---- one side of the thresholds: `up` is an excess, else a shortfall, which goes by negation
@@ -28,15 +29,6 @@ turn false x = negℤ x
 unfoldable pub priceOn : Bool → HourTerms → ℤ
 priceOn up k = cond up (k .«excess_price») (k .«shortfall_price»)
 
--- thresholds and prices within their ranges
-pub record TermsSmall (k : HourTerms) : Type 0 where
-  pub top : leZ (pos 0) (k .upper) ≡ true
-  pub bottom : leZ (k .lower) (pos 0) ≡ true
-  pub upper : natAbs (k .upper) ≤ 1_000_000_000
-  pub lower : natAbs (k .lower) ≤ 1_000_000_000
-  pub excess : natAbs (k .«excess_price») ≤ 10_000_000
-  pub shortfall : natAbs (k .«shortfall_price») ≤ 10_000_000
-
 -- the pass that gives the settled sizes their sign, and books money and positions after
 pub record Booked (up : Bool) (price : ℤ) (ps ps' ns q' m' : List ℤ) : Type 0 where
   pub quantity : q' ≡ map (turn up) ns
@@ -45,8 +37,8 @@ pub record Booked (up : Bool) (price : ℤ) (ps ps' ns q' m' : List ℤ) : Type 
 
 pub record SideAsks (up : Bool) (n : ℕ) (ps : List ℤ) (k : HourTerms) (q m : List ℤ) (s : List ℕ) : Type 0 where
   pub input : Input (sizes (side up n) ps) n
-  pub positions : AtMost 100_000_000 ps
-  pub terms : TermsSmall k
+  pub positions : every positionFit ps ≡ true
+  pub terms : termsFit k ≡ true
   pub quantities : length q ≡ length ps
   pub moneys : length m ≡ length ps
   pub scratches : length s ≡ length ps
@@ -62,9 +54,8 @@ pub record SideLeaves (up : Bool) (n : ℕ) (ps ps' : List ℤ) (k : HourTerms) 
 
 pub record Asks (p e x t i : List ℤ) (k : HourTerms) (q m : List ℤ) (s : List ℕ) : Type 0 where
   pub amounts : Amounts p e x t i
-  pub few : length e ≤ 128
-  pub positions : AtMost 100_000_000 (befores p e x t i)
-  pub terms : TermsSmall k
+  pub positions : every positionFit (befores p e x t i) ≡ true
+  pub terms : termsFit k ≡ true
   pub quantities : length q ≡ length e
   pub moneys : length m ≡ length e
   pub scratches : length s ≡ length e

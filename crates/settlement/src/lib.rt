@@ -7,9 +7,10 @@ ghost use lib.IntN.{natAbs, _-ℤ_};
 ghost use lib.ListN.{length};
 ghost use lib.Signed.{ltZ};
 ghost use Rattle.integers.specs.Lists.{bit, AtMost};
+ghost use Rattle.rules.specs.Causes.{termsFit};
 ghost use Rattle.rules.specs.Market.{caused, size, word, marks, causers};
 ghost use Rattle.positions.specs.Before.{befores, Amounts};
-ghost use Rattle.settlement.specs.Steps.{side, turn, priceOn, TermsSmall, Booked, SideAsks, SideLeaves, Asks, UsersLeave, ZoneLeaves, TableAsks, TableLeaves};
+ghost use Rattle.settlement.specs.Steps.{side, turn, priceOn, Booked, SideAsks, SideLeaves, Asks, UsersLeave, ZoneLeaves, TableAsks, TableLeaves};
 use rules::HourTerms;
 use rules::Marks;
 use rules::Outcome;
@@ -91,7 +92,7 @@ fn marks_of(up: bool, positions: &[i64]) -> Marks
 // ---- rules 5 and 6
 
 fn price_on(up: bool, terms: HourTerms) -> i64
-    requires { ⌜ TermsSmall terms ⌝ }
+    requires { ⌜ termsFit terms ≡ true ⌝ }
     ensures { λ r. ⌜ r ≡ priceOn up terms ⌝ }
 {
     if up {

@@ -3,6 +3,7 @@ use mathlib.Core.Path.{_≡_, _∙_}
 use Prim.Native.Nat.{_-_}
 use lib.ListN.{length}
 use Rattle.integers.proofs.Machine.{read, back, read-le, fits}
+use Rattle.rules.proofs.Small.{prices-small}
 use Rattle.closing.proofs.Parts.{copy-asked, quantity-asked, money-asked, part-left}
 use borrow.Author.Needs.{needs}
 use native.Mathlib.Omega.{arith}
@@ -32,7 +33,7 @@ money-all-requires c κs =
     let d = c .before .before .before .before .before in
     let s = start d in
     let k = s .args .terms in
-    let b = s .pre .prices in
+    let b = prices-small _ _ (s .pre .prices) in
     (read-le (k .«excess_price») 10_000_000 (b .excess), read-le (k .«shortfall_price») 10_000_000 (b .shortfall), money-asked (s .pre) _ (count d) _ (d .copy-all .ensures), quantity-asked (s .pre) _ (count d) _ (d .copy-all .ensures) .1)
 
 traded-all-requires : tie.Need-traded-all-requires
@@ -58,7 +59,7 @@ returns c =
     let d = c .before .before .before .before .before .before .before .before .before .before .before .before .before .before in
     let s = start d in
     let k = s .args .terms in
-    let b = s .pre .prices in
+    let b = prices-small _ _ (s .pre .prices) in
     let e = read (fits (k .«excess_price») (omega (arith, b .excess))) in
     let f = read (fits (k .«shortfall_price») (omega (arith, b .shortfall))) in
     part-left (s .pre) _ (count d) _ (d .copy-all .ensures) _ _ _ _

@@ -3,7 +3,8 @@ use mathlib.Core.Path.{_≡_, sym, ap, _∙_}
 use mathlib.Core.Bool.{Bool}
 use Rattle.integers.specs.Ranges.{isZero}
 use Rattle.integers.proofs.Machine.{back}
-use Rattle.closing.proofs.Parts.{part-h, part-l, left-h, left-l}
+use Rattle.rules.proofs.Zones.{part-h, part-l}
+use Rattle.closing.proofs.Parts.{left-h, left-l}
 use borrow.Author.Needs.{needs}
 use Rattle.closing.proofs.close_table.Statement.{statement}
 use Rattle.closing.proofs.close_table.Tie as tie
@@ -30,7 +31,7 @@ part-close-part-end c = search needs
 close-part-requires : tie.Need-close-part-requires
 close-part-requires c κs =
     let d = c .before .before .before in
-    part-h (start (d .before) .pre) (tested (d .before) (d .if1 .taken))
+    rw (part-h _ _ (tested (d .before) (d .if1 .taken))) at (start (d .before) .pre .lists)
 
 sub-close-part-2 : tie.Need-sub-close-part-2
 sub-close-part-2 c = search needs
@@ -44,7 +45,7 @@ part-close-part-end-2 c = search needs
 close-part-requires-2 : tie.Need-close-part-requires-2
 close-part-requires-2 c κs =
     let d = c .before .before .before in
-    part-l (start (d .before) .pre) (tested (d .before) (d .if1 .left))
+    rw (part-l _ _ (tested (d .before) (d .if1 .left))) at (start (d .before) .pre .lists)
 
 same-length : tie.Need-same-length
 same-length c = search needs

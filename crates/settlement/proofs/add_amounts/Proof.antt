@@ -6,7 +6,7 @@ use lib.ListN.{length, getD}
 use Rattle.integers.proofs.Machine.{back}
 use Rattle.integers.proofs.Passes.{Written, written-none, written-elem, written-next, written-all, read-elem, read-still}
 use Rattle.positions.specs.Before.{beforeAt, befores}
-use Rattle.positions.proofs.Before.{length-befores, befores-at}
+use Rattle.positions.proofs.Before.{few, length-befores, befores-at}
 use borrow.Author.Needs.{needs}
 use native.Mathlib.Omega.{arith}
 use Rattle.settlement.proofs.add_amounts.Statement.{statement}
@@ -63,7 +63,7 @@ before-of-requires : tie.Need-before-of-requires Inv-loop μ-loop
 before-of-requires c κs =
     let d = c .before .before .before .before .before in
     let l = d .before .loop in
-    let a = d .before .before .pre .1 in
+    let a = few (d .before .before .pre .1) in
     (read-still (a .position) (l .positions) (l .i) (old d), read-elem (a .entry) (l .i), read-elem (a .exit) (l .i), read-elem (a .title) (l .i), read-elem (a .pooling) (l .i))
 
 mul-t24 : tie.Need-mul-t24 Inv-loop μ-loop
@@ -85,11 +85,11 @@ loop-again c =
     let l = d .before .loop in
     let a = d .before .before .args in
     let v = rw (
-      back _ (c .before .before .before .before .before .before-of-arg .given),
-      back _ (c .before .before .before .before .before-of-arg2 .given),
-      back _ (c .before .before .before .before-of-arg3 .given),
-      back _ (c .before .before .before-of-arg4 .given),
-      back _ (c .before .before-of-arg5 .given),
+      back (getD (l .positions) (l .i) (pos 0)) (c .before .before .before .before .before .before-of-arg .given),
+      back (getD (a .entry .now) (l .i) (pos 0)) (c .before .before .before .before .before-of-arg2 .given),
+      back (getD (a .exit .now) (l .i) (pos 0)) (c .before .before .before .before-of-arg3 .given),
+      back (getD (a .title .now) (l .i) (pos 0)) (c .before .before .before-of-arg4 .given),
+      back (getD (a .pooling .now) (l .i) (pos 0)) (c .before .before-of-arg5 .given),
       old d,
     ) at (c .before-of .ensures) in (
       omega arith,

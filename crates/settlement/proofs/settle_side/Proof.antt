@@ -3,6 +3,7 @@ use mathlib.Core.Path.{_≡_, _∙_}
 use Rattle.integers.proofs.Machine.{back}
 use mir.Syntax.{w64}
 use mir.Val.{toZ, ofZ}
+use Rattle.rules.proofs.Small.{positions-small}
 use Rattle.settlement.specs.Steps.{priceOn}
 use Rattle.settlement.proofs.OneSide.{few, apportion-asked, book-asked, price-small, side-left}
 use borrow.Author.Needs.{needs}
@@ -16,10 +17,10 @@ price : (c : tie.After-price-on) → toZ w64 (ofZ w64 (c .price-on .result)) ≡
 price c = back _ (c .price-on .ok) ∙ c .price-on .ensures
 
 marks-of-requires : tie.Need-marks-of-requires
-marks-of-requires c κs = let s = c .before .before in (few (s .pre), s .pre .positions)
+marks-of-requires c κs = let s = c .before .before in (few (s .pre), positions-small _ (s .pre .positions))
 
 size-all-requires : tie.Need-size-all-requires
-size-all-requires c κs = search needs
+size-all-requires c κs = let s = c .before .before .before .before .before in (s .pre .scratches, positions-small _ (s .pre .positions))
 
 apportion-requires : tie.Need-apportion-requires
 apportion-requires c κs = let d = c .before .before .before .before in apportion-asked (start d .pre) _ (d .size-all .ensures)

@@ -3,7 +3,8 @@ use mathlib.Core.Path.{_≡_, sym, ap, _∙_}
 use mathlib.Core.Bool.{Bool}
 use Rattle.integers.specs.Ranges.{isZero}
 use Rattle.integers.proofs.Machine.{back}
-use Rattle.settlement.proofs.Tables.{part-h, part-l, left-h, left-l}
+use Rattle.rules.proofs.Zones.{part-h, part-l}
+use Rattle.settlement.proofs.Tables.{left-h, left-l}
 use borrow.Author.Needs.{needs}
 use Rattle.settlement.proofs.settle_table.Statement.{statement}
 use Rattle.settlement.proofs.settle_table.Tie as tie
@@ -30,7 +31,7 @@ part-settle-zone-end c = search needs
 settle-zone-requires : tie.Need-settle-zone-requires
 settle-zone-requires c κs =
     let d = c .before .before .before .before in
-    part-h _ _ _ _ _ _ _ _ _ (tested (d .before) (d .if1 .taken)) (start (d .before) .pre)
+    rw (part-h _ _ (tested (d .before) (d .if1 .taken))) at (start (d .before) .pre .lists)
 
 sub-settle-zone-2 : tie.Need-sub-settle-zone-2
 sub-settle-zone-2 c = search needs
@@ -44,7 +45,7 @@ part-settle-zone-end-2 c = search needs
 settle-zone-requires-2 : tie.Need-settle-zone-requires-2
 settle-zone-requires-2 c κs =
     let d = c .before .before .before .before in
-    part-l _ _ _ _ _ _ _ _ _ (tested (d .before) (d .if1 .left)) (start (d .before) .pre)
+    rw (part-l _ _ (tested (d .before) (d .if1 .left))) at (start (d .before) .pre .lists)
 
 same-length : tie.Need-same-length
 same-length c = search needs

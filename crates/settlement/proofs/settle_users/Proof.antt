@@ -24,10 +24,10 @@ market : (c : tie.After-sum-of) → toZ w64 (ofZ w64 (c .sum-of .result)) ≡ c 
 market c = market-back (start c .pre .1) _ (added c) _ (c .sum-of .ensures)
 
 upper : (c : tie.After-sum-of) → toZ w64 (ofZ w64 (start c .args .terms .upper)) ≡ start c .args .terms .upper
-upper c = upper-back (start c .pre .1 .terms)
+upper c = upper-back _ (start c .pre .1 .terms)
 
 lower : (c : tie.After-sum-of) → toZ w64 (ofZ w64 (start c .args .terms .lower)) ≡ start c .args .terms .lower
-lower c = lower-back (start c .pre .1 .terms)
+lower c = lower-back _ (start c .pre .1 .terms)
 
 above : (c : tie.After-sum-of) {b : Bool} → ltZ (toZ w64 (ofZ w64 (start c .args .terms .upper))) (toZ w64 (ofZ w64 (c .sum-of .result))) ≡ b → ltZ (start c .args .terms .upper) (c .sum-of .result) ≡ b
 above c e = rw (market c, upper c) at e

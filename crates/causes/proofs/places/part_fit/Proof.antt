@@ -8,20 +8,21 @@ use borrow.Author.Needs.{needs}
 use Rattle.causes.proofs.places.part_fit.Statement.{statement}
 use Rattle.causes.proofs.places.part_fit.Tie as tie
 
-live : (c : tie.After-positions-fit) → c .positions-fit .result ≡ every positionFit (take (c .before .before .args .live) (c .before .before .args .part .now))
-live c = simp from-start at (c .positions-fit .ensures)
+live : (c : tie.After-all-within) → c .all-within .result ≡ every positionFit (take (c .before .before .args .live) (c .before .before .args .part .now))
+unfolding positionFit
+live c = simp from-start at (c .all-within .ensures)
 
-sub-positions-fit : tie.Need-sub-positions-fit
-sub-positions-fit c = search needs
+sub-all-within : tie.Need-sub-all-within
+sub-all-within c = search needs
 
-part-positions-fit-start : tie.Need-part-positions-fit-start
-part-positions-fit-start c = search needs
+part-all-within-start : tie.Need-part-all-within-start
+part-all-within-start c = search needs
 
-part-positions-fit-end : tie.Need-part-positions-fit-end
-part-positions-fit-end c = search needs
+part-all-within-end : tie.Need-part-all-within-end
+part-all-within-end c = search needs
 
-positions-fit-requires : tie.Need-positions-fit-requires
-positions-fit-requires c κs = search needs
+all-within-requires : tie.Need-all-within-requires
+all-within-requires c κs = search needs
 
 mul-all-zero : tie.Need-mul-all-zero
 mul-all-zero c = search needs
@@ -48,10 +49,10 @@ pub part-fit-spec : {M : Type 1} → statement M
 part-fit-spec =
     tie.close
     (tie.spec
-    sub-positions-fit
-    part-positions-fit-start
-    part-positions-fit-end
-    positions-fit-requires
+    sub-all-within
+    part-all-within-start
+    part-all-within-end
+    all-within-requires
     mul-all-zero
     sub-all-zero
     part-all-zero-start
