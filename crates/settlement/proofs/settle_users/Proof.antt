@@ -1,7 +1,7 @@
 -- By the market position, in the three cases of rule 2 (proofs/Users.antt). Assumes nothing.
 use mathlib.Core.Path.{_≡_}
-use mathlib.Core.Bool.{Bool}
-use lib.IntN.{pos}
+use mathlib.Core.Bool.{Bool, true, false}
+use lib.IntN.{pos, natAbs, _-ℤ_}
 use lib.Signed.{ltZ}
 use mir.Syntax.{w64}
 use mir.Val.{toZ, ofZ}
@@ -35,6 +35,39 @@ above c e = rw (market c, upper c) at e
 below : (c : tie.After-sum-of) {b : Bool} → ltZ (toZ w64 (ofZ w64 (c .sum-of .result))) (toZ w64 (ofZ w64 (start c .args .terms .lower))) ≡ b → ltZ (c .sum-of .result) (start c .args .terms .lower) ≡ b
 below c e = rw (market c, lower c) at e
 
+-- ---- in an excess: once its total is known, and at the end
+abbrev summed : tie.After-gap → tie.After-sum-of
+summed g = g .before .before .before .before
+
+over : (g : tie.After-gap) → ltZ (start (summed g) .args .terms .upper) (summed g .sum-of .result) ≡ true
+over g = above (summed g) (g .before .if1 .taken)
+
+excess-is : (g : tie.After-gap) → g .gap .result ≡ natAbs (summed g .sum-of .result -ℤ start (summed g) .args .terms .upper)
+excess-is g = rw (market (summed g), upper (summed g)) at (g .gap .ensures)
+
+abbrev excess : tie.After-slice-known2 → tie.After-gap
+excess c = c .before .before .before .before .before .before .before .before .before .before
+
+-- ---- in a shortfall
+abbrev summed2 : tie.After-gap2 → tie.After-sum-of
+summed2 g = g .before .before .before .before .before
+
+not-over : (g : tie.After-gap2) → ltZ (start (summed2 g) .args .terms .upper) (summed2 g .sum-of .result) ≡ false
+not-over g = above (summed2 g) (g .before .before .if1 .left)
+
+under : (g : tie.After-gap2) → ltZ (summed2 g .sum-of .result) (start (summed2 g) .args .terms .lower) ≡ true
+under g = below (summed2 g) (g .before .if2 .taken)
+
+shortfall-is : (g : tie.After-gap2) → g .gap2 .result ≡ natAbs (start (summed2 g) .args .terms .lower -ℤ summed2 g .sum-of .result)
+shortfall-is g = rw (market (summed2 g), lower (summed2 g)) at (g .gap2 .ensures)
+
+abbrev shortfall : tie.After-slice-known3 → tie.After-gap2
+shortfall c = c .before .before .before .before .before .before .before .before .before .before
+
+-- ---- within the thresholds
+abbrev within : tie.After-slice-known4 → tie.Else2
+within c = c .before .before .before .before .before .before .before .before .before .before
+
 add-amounts-requires : tie.Need-add-amounts-requires
 add-amounts-requires c κs = search needs
 
@@ -46,13 +79,15 @@ gap-requires c κs = let d = c .before .before .before in rw (market d, upper d)
 
 settle-side-requires : tie.Need-settle-side-requires
 settle-side-requires c κs =
-    let d = c .before .before .before .before .before .before .before .before in
-    excess-asked (start d .pre .1) _ (added d) _ (d .sum-of .ensures) (above d (c .before .before .before .before .before .if1 .taken)) _ (rw (market d, upper d) at (c .before .before .before .before .gap .ensures))
+    let g = c .before .before .before .before in
+    let d = summed g in
+    excess-asked (start d .pre .1) _ (added d) _ (d .sum-of .ensures) (over g) _ (excess-is g)
 
 cast-t31 : tie.Need-cast-t31
 cast-t31 c =
-    let d = c .before .before .before .before .before .before .before .before .before .before .before .before .before .before in
-    fits (pos (c .before .before .before .before .before .before .before .before .before .before .gap .result)) (omega (arith, excess-fits (start d .pre .1) _ (added d) _ (d .sum-of .ensures) (above d (c .before .before .before .before .before .before .before .before .before .before .before .if1 .taken)) _ (rw (market d, upper d) at (c .before .before .before .before .before .before .before .before .before .before .gap .ensures))))
+    let g = excess c in
+    let d = summed g in
+    fits (pos (g .gap .result)) (omega (arith, excess-fits (start d .pre .1) _ (added d) _ (d .sum-of .ensures) (over g) _ (excess-is g)))
 
 same-length : tie.Need-same-length
 same-length c = search needs
@@ -68,23 +103,25 @@ same-length-4 c = search needs
 
 returns : tie.Need-returns
 returns c =
-    let d = c .before .before .before .before .before .before .before .before .before .before .before .before .before .before in
+    let g = excess c in
+    let d = summed g in
     rw (read (cast-t31 c))
-    (excess-left (start d .pre .1) _ (added d) _ (d .sum-of .ensures) (above d (c .before .before .before .before .before .before .before .before .before .before .before .if1 .taken)) _ (rw (market d, upper d) at (c .before .before .before .before .before .before .before .before .before .before .gap .ensures)) _ _ _ _ _ (c .before .before .before .before .before .settle-side .ensures))
+    (excess-left (start d .pre .1) _ (added d) _ (d .sum-of .ensures) (over g) _ (excess-is g) _ _ _ _ _ (c .before .before .before .before .before .settle-side .ensures))
 
 gap-requires-2 : tie.Need-gap-requires-2
 gap-requires-2 c κs = let d = c .before .before .before .before in rw (market d, lower d) (shortfall-gap (start d .pre .1) _ (added d) _ (d .sum-of .ensures) (above d (c .before .if1 .left)) (below d (c .if2 .taken)))
 
 settle-side-requires-2 : tie.Need-settle-side-requires-2
 settle-side-requires-2 c κs =
-    let d = c .before .before .before .before .before .before .before .before .before in
-    shortfall-asked (start d .pre .1) _ (added d) _ (d .sum-of .ensures) (above d (c .before .before .before .before .before .before .if1 .left)) (below d (c .before .before .before .before .before .if2 .taken)) _ (rw (market d, lower d) at (c .before .before .before .before .gap2 .ensures))
+    let g = c .before .before .before .before in
+    let d = summed2 g in
+    shortfall-asked (start d .pre .1) _ (added d) _ (d .sum-of .ensures) (not-over g) (under g) _ (shortfall-is g)
 
 cast-t41 : tie.Need-cast-t41
 cast-t41 c =
-    let d = c .before .before .before .before .before .before .before .before .before .before .before .before .before .before .before in
-    fits (pos (c .before .before .before .before .before .before .before .before .before .before .gap2 .result))
-    (omega (arith, shortfall-fits (start d .pre .1) _ (added d) _ (d .sum-of .ensures) (above d (c .before .before .before .before .before .before .before .before .before .before .before .before .if1 .left)) (below d (c .before .before .before .before .before .before .before .before .before .before .before .if2 .taken)) _ (rw (market d, lower d) at (c .before .before .before .before .before .before .before .before .before .before .gap2 .ensures))))
+    let g = shortfall c in
+    let d = summed2 g in
+    fits (pos (g .gap2 .result)) (omega (arith, shortfall-fits (start d .pre .1) _ (added d) _ (d .sum-of .ensures) (not-over g) (under g) _ (shortfall-is g)))
 
 same-length-5 : tie.Need-same-length-5
 same-length-5 c = search needs
@@ -100,9 +137,10 @@ same-length-8 c = search needs
 
 returns-2 : tie.Need-returns-2
 returns-2 c =
-    let d = c .before .before .before .before .before .before .before .before .before .before .before .before .before .before .before in
+    let g = shortfall c in
+    let d = summed2 g in
     rw (read (cast-t41 c))
-    (shortfall-left (start d .pre .1) _ (added d) _ (d .sum-of .ensures) (above d (c .before .before .before .before .before .before .before .before .before .before .before .before .if1 .left)) (below d (c .before .before .before .before .before .before .before .before .before .before .before .if2 .taken)) _ (rw (market d, lower d) at (c .before .before .before .before .before .before .before .before .before .before .gap2 .ensures)) _ _ _ _ _ (c .before .before .before .before .before .settle-side2 .ensures))
+    (shortfall-left (start d .pre .1) _ (added d) _ (d .sum-of .ensures) (not-over g) (under g) _ (shortfall-is g) _ _ _ _ _ (c .before .before .before .before .before .settle-side2 .ensures))
 
 clear-requires : tie.Need-clear-requires
 clear-requires c κs = search needs
@@ -127,8 +165,10 @@ same-length-12 c = search needs
 
 returns-3 : tie.Need-returns-3
 returns-3 c =
-    let d = c .before .before .before .before .before .before .before .before .before .before .before .before .before .before in
-    within-left (start d .pre .1) _ (added d) _ (d .sum-of .ensures) (above d (c .before .before .before .before .before .before .before .before .before .before .before .if1 .left)) (below d (c .before .before .before .before .before .before .before .before .before .before .if2 .left)) _ _ _ (c .before .before .before .before .before .before .before .before .clear .ensures) (c .before .before .before .before .before .clear2 .ensures) (c .before .before .clear-unsigned .ensures)
+    let w = within c in
+    let d = w .before .before .before .before in
+    within-left (start d .pre .1) _ (added d) _ (d .sum-of .ensures) (above d (w .before .if1 .left)) (below d (w .if2 .left))
+    _ _ _ (c .before .before .before .before .before .before .before .before .clear .ensures) (c .before .before .before .before .before .clear2 .ensures) (c .before .before .clear-unsigned .ensures)
 
 pub settle-users-spec : {M : Type 1} → statement M
 settle-users-spec =

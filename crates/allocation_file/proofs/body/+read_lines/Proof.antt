@@ -1,5 +1,6 @@
 -- By a measure that falls with each line: what is left of the file. A row is stored once the lines after it are read. Assumes nothing.
 use mathlib.Core.Path.{_≡_, sym, _∙_}
+use mathlib.Core.Bool.{true}
 use Prim.Native.Nat.{ℕ, _+_, _-_, _≤_, _<_}
 use native.Mathlib.Omega.{arith}
 use lib.ListN.{length, drop}
@@ -8,8 +9,11 @@ use borrow.Author.Tests.{not-true, not-false}
 use borrow.Author.Needs.{needs}
 use borrow.Fn.Kinds.{In}
 use borrow.Fn.PlainCycle.{Measures, is, falls, and}
+use Rattle.allocation_file.specs.declared.row.Row.{Row}
+use Rattle.allocation_file.specs.declared.row.Line.the-variants.{Good}
 use Rattle.allocation_file.specs.Lines.{lines}
-use Rattle.allocation_file.specs.File.{withRow, inTurn}
+use Rattle.allocation_file.specs.Rows.{rowOf}
+use Rattle.allocation_file.specs.File.{follows, withRow, inTurn}
 use Rattle.allocation_file.proofs.Lines.{line-within, line-length}
 use Rattle.allocation_file.proofs.Turns.{turns-end, turn-faulty, turn-other, turn-row, follows-means}
 use Rattle.allocation_file.proofs.Stores.{after-refused, after-end, after-rest, after-stored}
@@ -63,20 +67,37 @@ next-within t c =
     let h : a .at ≤ length (now (a .file)) = omega arith in
     rw (c .line-at .ensures, line-length (now (a .file)) (a .at) h) (line-within (now (a .file)) (a .at) h)
 
--- the row may stand at its place
-below : (t : ℕ) (c : lts.Else2 (claims t) (pre t) read-lines.Post) → c .before .before .before .before .before .before .before .before .before .args .place < 128
-below t c = follows-means _ _ _ (c .before .before .before .row .given .0 .0) (sym (c .before .follows-on .ensures) ∙ not-false _ (c .if2 .left)) .below
+-- a row that may stand at its place: the function's entry, the line, the row, and that it may
+module _ (t : ℕ) (c : lts.Else2 (claims t) (pre t) read-lines.Post) where
+  abbrev entry : lts.Start (claims t) (pre t) read-lines.Post
+  entry = c .before .before .before .before .before .before .before .before .before
 
--- what the row makes of the lines from it on
-rest : (t : ℕ) (c : lts.Else2 (claims t) (pre t) read-lines.Post) →
-    let a = c .before .before .before .before .before .before .before .before .before .args in
-    let l = now (c .before .before .before .before .before .before .line-at .result) in
-    inTurn (a .hour) (a .zone) (lines (drop (a .at) (now (a .file)))) (a .place)
-    ≡ withRow (c .before .before .before .row .given .0 .0) (inTurn (a .hour) (a .zone) (lines (drop (a .at + length l + 2) (now (a .file)))) (a .place + 1))
-rest t c =
-    let a = c .before .before .before .before .before .before .before .before .before .args in
-    let l = c .before .before .before .before .before .before .line-at in
-    turn-row (now (a .file)) (a .at) (c .before .before .before .before .before .before .before .if1 .left) (now (l .result)) (l .ensures) (a .hour) (a .zone) (a .place) (c .before .before .before .row .given .0 .0) (sym (c .before .before .before .before .before .read-row .ensures) ∙ c .before .before .before .row .given .1) (sym (c .before .follows-on .ensures) ∙ not-false _ (c .if2 .left))
+  abbrev lined : lts.After-line-at (claims t) (pre t) read-lines.Post
+  lined = c .before .before .before .before .before .before
+
+  abbrev row : Row
+  row = c .before .before .before .row .given .0 .0
+
+  is-row : rowOf (now (lined .line-at .result)) ≡ Good row
+  is-row = sym (c .before .before .before .before .before .read-row .ensures) ∙ c .before .before .before .row .given .1
+
+  may-stand : follows (entry .args .hour) (entry .args .zone) (entry .args .place) row ≡ true
+  may-stand = sym (c .before .follows-on .ensures) ∙ not-false _ (c .if2 .left)
+
+  below : entry .args .place < 128
+  below = follows-means _ _ _ row may-stand .below
+
+  -- what the row makes of the lines from it on
+  rest : let a = entry .args in
+      inTurn (a .hour) (a .zone) (lines (drop (a .at) (now (a .file)))) (a .place)
+      ≡ withRow row (inTurn (a .hour) (a .zone) (lines (drop (a .at + length (now (lined .line-at .result)) + 2) (now (a .file)))) (a .place + 1))
+  rest =
+      let a = entry .args in
+      turn-row (now (a .file)) (a .at) (lined .before .if1 .left) (now (lined .line-at .result)) (lined .line-at .ensures) (a .hour) (a .zone) (a .place) row is-row may-stand
+
+-- and the lines after it are read
+abbrev turned : (t : ℕ) → lts.After-read-lines (claims t) (pre t) read-lines.Post → lts.Else2 (claims t) (pre t) read-lines.Post
+turned t c = c .before .before .before .before .before
 
 -- ---- the needs
 
@@ -129,7 +150,7 @@ add-read-lines : (t : ℕ) → lts.Need-add-read-lines (claims t) (pre t) read-l
 add-read-lines t c = omega (arith, below t c)
 
 read-lines-requires : (t : ℕ) → lts.Need-read-lines-requires (claims t) (pre t) read-lines.Post
-read-lines-requires t c κs = (omega (arith, next-within t (c .before .before .before .before .before .before .before .before .before .before)), (omega (arith, below t (c .before .before .before .before)), c .before .before .before .before .before .before .before .before .before .before .before .before .before .pre .1 .1))
+read-lines-requires t c κs = let d = c .before .before .before .before in (omega (arith, next-within t (lined t d)), (omega (arith, below t d), entry t d .pre .1 .1))
 
 is-refused-requires : (t : ℕ) → lts.Need-is-refused-requires (claims t) (pre t) read-lines.Post
 is-refused-requires t c κs = search needs
@@ -147,13 +168,17 @@ same-length-4 : (t : ℕ) → lts.Need-same-length-4 (claims t) (pre t) read-lin
 same-length-4 t c = search needs
 
 returns-4 : (t : ℕ) → lts.Need-returns-4 (claims t) (pre t) read-lines.Post
-returns-4 t c = rw (rest t (c .before .before .before .before .before .before .before .before .before .before .before)) (after-rest _ (c .before .before .before .before .before .before .before .before .before .before .before .before .before .before .row .given .0 .0) _ _ (sym (c .before .is-refused .ensures) ∙ c .if3 .taken) (c .before .before .before .before .before .before .read-lines .ensures))
+returns-4 t c =
+    let r = c .before .before .before .before .before .before in
+    let d = turned t r in
+    rw (rest t d) (after-rest _ (row t d) _ _ (sym (c .before .is-refused .ensures) ∙ c .if3 .taken) (r .read-lines .ensures))
 
 store-requires : (t : ℕ) → lts.Need-store-requires (claims t) (pre t) read-lines.Post
 store-requires t c κs =
-    let b = below t (c .before .before .before .before .before .before .before .before .before .before .before .before .before .before .before) in
-    let p = c .before .before .before .before .before .before .before .before .before .before .before .before .before .before .before .before .before .before .before .before .before .before .before .before .pre .1 .1 in
-    let q = c .before .before .before .before .before .before .before .before .before .before .read-lines .kept .1 .1 .1 .1 .1 in
+    let r = c .before .before .before .before .before .before .before .before .before .before in
+    let b = below t (turned t r) in
+    let p = entry t (turned t r) .pre .1 .1 in
+    let q = r .read-lines .kept .1 .1 .1 .1 .1 in
     record { entries = omega (arith, q .0); exits = omega (arith, q .1 .0); titles = omega (arith, q .1 .1 .0); poolings = omega (arith, q .1 .1 .1 .0) }
 
 same-length-5 : (t : ℕ) → lts.Need-same-length-5 (claims t) (pre t) read-lines.Post
@@ -170,8 +195,11 @@ same-length-8 t c = search needs
 
 returns-5 : (t : ℕ) → lts.Need-returns-5 (claims t) (pre t) read-lines.Post
 returns-5 t c =
-    rw (rest t (c .before .before .before .before .before .before .before .before .before .before .before .before .before .before .before .before .before .before .before .before))
-    (after-stored _ (c .before .before .before .before .before .before .before .before .before .before .before .before .before .before .before .before .before .before .before .before .before .before .before .row .given .0 .0) _ _ (c .before .before .before .before .before .before .before .before .before .before .before .before .before .before .before .before .before .before .before .before .before .before .before .before .before .before .before .before .before .pre .1 .1) (below t (c .before .before .before .before .before .before .before .before .before .before .before .before .before .before .before .before .before .before .before .before)) (sym (c .before .before .before .before .before .before .before .before .before .before .is-refused .ensures) ∙ c .before .before .before .before .before .before .before .before .before .if3 .left) (c .before .before .before .before .before .before .before .before .before .before .before .before .before .before .before .read-lines .ensures) (c .before .before .before .before .store .ensures))
+    let r = c .before .before .before .before .before .before .before .before .before .before .before .before .before .before .before in
+    let d = turned t r in
+    let f = c .before .before .before .before .before .before .before .before .before in
+    rw (rest t d)
+    (after-stored _ (row t d) _ _ (entry t d .pre .1 .1) (below t d) (sym (f .before .is-refused .ensures) ∙ f .if3 .left) (r .read-lines .ensures) (c .before .before .before .before .store .ensures))
 
 pub +read-lines-spec : {M : Type 1} → statement M
 +read-lines-spec = close μ λ t. lts.spec (claims t)
