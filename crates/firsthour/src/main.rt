@@ -1,12 +1,13 @@
 // Settles the first hour of a Gas Day: reads the hour's allocation file from standard input, and prints each user's positions, quantity and money, or the one line
 // of a refusal. Only the reading and the writing stand outside the contracts: `input_text` fixes every byte that is printed.
 ghost use mathlib.Core.Path.{_≡_};
-ghost use Prim.Native.Nat.{_≤_};
+ghost use Prim.Native.Nat.{_≤_, _<_};
 ghost use lib.ListN.{length, take};
 ghost use Rattle.rules.specs.Days.{firstPlace};
 ghost use Rattle.rules.specs.Hours.{hourGiven};
 ghost use Rattle.rules.specs.Answers.{hourNumber};
 ghost use Rattle.allocation_file.specs.File.{fileOf};
+ghost use Rattle.io.specs.Counts.{Counts};
 ghost use Rattle.report.specs.Puts.{Put};
 ghost use Rattle.firsthour.specs.Lent.{sums, Adds, Settled, settledText, TextRoom, ReadLists};
 ghost use Rattle.firsthour.specs.Printed.{settled, termsOf, withDefaults, opened, openedNew, ofFile, printed};
@@ -285,10 +286,17 @@ fn input_text(out: &mut [u8], input: &[u8]) -> usize
     file_text(out, input)
 }
 
-// One byte more than the longest input is asked for, so that a longer one is seen. A read that fails counts as the end of the input.
+// Reads the input into `room`, which has a byte more than the longest file, so that a longer input is seen. A read that fails counts as the end of the input.
+fn read_input(room: &mut [u8]) -> usize
+    requires { ⌜ 65_536 < length (now room) ⌝ }
+    ensures { λ r. ⌜ Counts r (now (room .exit)) ⌝ }
+{
+    io::read_full(STDIN_FILENO, room)
+}
+
 fn main() {
     let mut input = [0u8; INPUT_MOST + 1];
-    let length = io::read_full(STDIN_FILENO, &mut input);
+    let length = read_input(&mut input);
     let mut out = [0u8; TEXT_MOST];
     let end = input_text(&mut out, &input[..length]);
     io::write_all(STDOUT_FILENO, &out[..end]);

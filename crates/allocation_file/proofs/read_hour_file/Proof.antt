@@ -1,12 +1,24 @@
 -- Cause 12, cause 13, or what the lines after the header say. Assumes nothing.
-use mathlib.Core.Path.{sym, _∙_}
+use mathlib.Core.Path.{_≡_, sym, _∙_}
+use mathlib.Core.Bool.{true}
+use lib.ListN.{length}
 use denote.Ref.{now}
 use borrow.Author.Needs.{needs}
 use borrow.Author.Tests.{not-true, not-false}
+use Rattle.allocation_file.specs.File.{all128}
 use Rattle.allocation_file.proofs.Header.{wrong-length, other-header, right-header, lent}
 use Rattle.allocation_file.proofs.Stores.{refusal, called}
 use Rattle.allocation_file.proofs.read_hour_file.Statement.{statement}
 use Rattle.allocation_file.proofs.read_hour_file.Tie as tie
+
+-- cause 12 does not apply: the function's entry, and the lists' lengths
+abbrev start : tie.Else1 → tie.Start
+start e = e .before .before .before
+
+right-lengths : (e : tie.Else1) → let a = start e .args in all128 (length (now (a .entries))) (length (now (a .exits))) (length (now (a .titles))) (length (now (a .poolings))) ≡ true
+right-lengths e = sym (e .before .all-128 .ensures) ∙ not-false _ (e .if1 .left)
+
+-- ---- the needs
 
 all-128-requires : tie.Need-all-128-requires
 all-128-requires c κs = search needs
@@ -24,13 +36,16 @@ begins-with-requires c κs = search needs
 
 returns-2 : tie.Need-returns-2
 returns-2 c =
-    let a = c .before .before .before .before .before .before .args in
-    refusal (other-header (now (a .file)) (now (a .entries)) (now (a .exits)) (now (a .titles)) (now (a .poolings)) (sym (c .before .before .before .before .all-128 .ensures) ∙ not-false _ (c .before .before .before .if1 .left)) (sym (c .before .begins-with .ensures) ∙ not-true _ (c .if2 .taken)))
+    let e = c .before .before .before in
+    let a = start e .args in
+    refusal (other-header (now (a .file)) (now (a .entries)) (now (a .exits)) (now (a .titles)) (now (a .poolings)) (right-lengths e) (sym (c .before .begins-with .ensures) ∙ not-true _ (c .if2 .taken)))
 
 read-body-requires : tie.Need-read-body-requires
 read-body-requires c κs =
-    let a = c .before .before .before .before .before .before .before .before .before .before .args in
-    lent (now (a .file)) (now (a .entries)) (now (a .exits)) (now (a .titles)) (now (a .poolings)) (sym (c .before .before .before .before .before .before .before .before .all-128 .ensures) ∙ not-false _ (c .before .before .before .before .before .before .before .if1 .left))
+    let h = c .before .before .before .before in
+    let e = h .before .before .before in
+    let a = start e .args in
+    lent (now (a .file)) (now (a .entries)) (now (a .exits)) (now (a .titles)) (now (a .poolings)) (right-lengths e)
 
 same-length : tie.Need-same-length
 same-length c = search needs
@@ -46,10 +61,13 @@ same-length-4 c = search needs
 
 returns-3 : tie.Need-returns-3
 returns-3 c =
-    let a = c .before .before .before .before .before .before .before .before .before .before .before .before .before .before .before .args in
+    let b = c .before .before .before .before in
+    let h = b .before .before .before .before .before in
+    let e = h .before .before .before in
+    let a = start e .args in
     called (now (a .file)) _ _
-    (right-header (now (a .file)) (now (a .entries)) (now (a .exits)) (now (a .titles)) (now (a .poolings)) (sym (c .before .before .before .before .before .before .before .before .before .before .before .before .before .all-128 .ensures) ∙ not-false _ (c .before .before .before .before .before .before .before .before .before .before .before .before .if1 .left)) (sym (c .before .before .before .before .before .before .before .before .before .before .begins-with .ensures) ∙ not-false _ (c .before .before .before .before .before .before .before .before .before .if2 .left)))
-    (c .before .before .before .before .read-body .ensures)
+    (right-header (now (a .file)) (now (a .entries)) (now (a .exits)) (now (a .titles)) (now (a .poolings)) (right-lengths e) (sym (h .before .begins-with .ensures) ∙ not-false _ (h .if2 .left)))
+    (b .read-body .ensures)
 
 pub read-hour-file-spec : {M : Type 1} → statement M
 read-hour-file-spec =

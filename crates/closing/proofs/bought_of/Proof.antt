@@ -1,11 +1,16 @@
 -- By the sign. Assumes nothing.
-use mathlib.Core.Path.{ap, _∙_}
+use mathlib.Core.Path.{_≡_, ap, _∙_}
+use mathlib.Core.Bool.{true}
 use Rattle.integers.proofs.Machine.{read, back, read-le}
-use lib.IntN.{negℤ}
+use lib.IntN.{pos, negℤ}
+use lib.Signed.{ltZ}
 use Rattle.closing.specs.Steps.{boughtOf}
 use native.Mathlib.Omega.{arith}
 use Rattle.closing.proofs.bought_of.Statement.{statement}
 use Rattle.closing.proofs.bought_of.Tie as tie
+
+below-zero : (c : tie.Then1) → ltZ (c .before .args .quantity) (pos 0) ≡ true
+below-zero c = rw (read (c .before .fits .quantity)) at (c .if1 .taken)
 
 negated-requires : tie.Need-negated-requires
 negated-requires c κs = omega (arith, read-le (c .before .args .quantity) 100_000_000 (c .before .pre))
@@ -13,8 +18,7 @@ negated-requires c κs = omega (arith, read-le (c .before .args .quantity) 100_0
 returns : tie.Need-returns
 unfolding boughtOf
 returns c =
-    let f = read (c .before .before .fits .quantity) in
-    rw (rw f at (c .before .if1 .taken)) (back _ (c .negated .ok) ∙ c .negated .ensures ∙ ap negℤ f)
+    rw (below-zero (c .before)) (back _ (c .negated .ok) ∙ c .negated .ensures ∙ ap negℤ (read (c .before .before .fits .quantity)))
 
 returns-2 : tie.Need-returns-2
 unfolding boughtOf

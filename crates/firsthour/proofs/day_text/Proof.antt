@@ -16,8 +16,8 @@ use Rattle.firsthour.proofs.day_text.Tie as tie
 counted : (c : tie.After-signed) → toZ w64 (ofZ w64 (c .signed .result)) ≡ pos (length (now (c .before .before .before .args .entry)))
 counted c = back (c .signed .result) (c .signed .ok) ∙ c .signed .ensures
 
-answered : (c : tie.After-open) → c .«open» .result ≡ openAnswer (pos (length (now (c .before .before .before .before .before .args .entry)))) (now (c .before .before .before .before .before .args .table))
-answered c = rw (counted (c .before .before)) at (c .«open» .ensures .answer)
+answered : (o : tie.After-open) → let a = o .before .before .before .before .before .args in o .«open» .result ≡ openAnswer (pos (length (now (a .entry)))) (now (a .table))
+answered o = rw (counted (o .before .before)) at (o .«open» .ensures .answer)
 
 signed-requires : tie.Need-signed-requires
 signed-requires c κs = search needs
@@ -40,8 +40,10 @@ same-length-2 c = search needs
 returns : tie.Need-returns
 unfolding opened
 returns c =
-    let a = c .before .before .before .before .before .before .before .before .before .before .before .before .before .args in
-    rw (open-refused (pos (length (now (a .entry)))) (now (a .table)) _ (sym (c .before .before .before .before .before .number .given .1) ∙ answered (c .before .before .before .before .before .before .before .before))) (c .before .before .write-refused .ensures)
+    let k = c .before .before .before .before .before in
+    let o = k .before .before .before in
+    let a = o .before .before .before .before .before .args in
+    rw (open-refused (pos (length (now (a .entry)))) (now (a .table)) _ (sym (k .number .given .1) ∙ answered o)) (c .before .before .write-refused .ensures)
 
 enum-known-day : tie.Need-enum-known-day
 enum-known-day c = search needs
@@ -70,12 +72,15 @@ same-length-8 c = search needs
 returns-2 : tie.Need-returns-2
 unfolding opened
 returns-2 c =
-    let a = c .before .before .before .before .before .before .before .before .before .before .before .before .before .before .before .before .before .before .before .before .before .before .before .before .args in
-    let f = c .before .before .before .before .before .before .before .before .before .before .before .before .before .before .before .before .before .before .before .before .before .before .before .before .fits in
-    let n = pos (length (now (a .entry))) in
-    let e = sym (c .before .before .before .before .before .before .before .before .before .before .before .before .before .before .before .before .day .given .1) ∙ answered (c .before .before .before .before .before .before .before .before .before .before .before .before .before .before .before .before .before .before .before) in
-    let t = rw (counted (c .before .before .before .before .before .before .before .before .before .before .before .before .before .before .before .before .before .before .before .before .before)) at (c .before .before .before .before .before .before .before .before .before .before .before .before .before .before .before .before .before .before .before .«open» .ensures .table) in
-    rw (accepted-text _ (open-none n (now (a .table)) e)) (rw (read (f .hour), read (f .zone), open-day n (now (a .table)) e, t) at (c .before .before .before .before .before .before .before .before .january-text .ensures))
+    let w = c .before .before .before .before .before .before .before .before in
+    let d = w .before .before .before .before .before .before .before .before in
+    let o = d .before .before .before in
+    let s = o .before .before .before .before .before in
+    let n = pos (length (now (s .args .entry))) in
+    let e = sym (d .day .given .1) ∙ answered o in
+    let t = rw (counted (o .before .before)) at (o .«open» .ensures .table) in
+    rw (accepted-text _ (open-none n (now (s .args .table)) e))
+    (rw (read (s .fits .hour), read (s .fits .zone), open-day n (now (s .args .table)) e, t) at (w .january-text .ensures))
 
 pub day-text-spec : {M : Type 1} → statement M
 day-text-spec =

@@ -14,11 +14,24 @@ given c =
     let a = c .args in
     hourGiven (a .terms) (now (a .entry)) (now (a .exit)) (now (a .title)) (now (a .pooling)) (now (a .quantity)) (now (a .money)) (now (a .scratch))
 
-cause : (c : tie.After-cause-of) → let s = c .before .before .before .before .before .before .before .before .before .before .before .before .before in c .cause-of .result ≡ hourCause (s .args .day) (now (s .args .table)) (given s)
-cause c = let s = c .before .before .before .before .before .before .before .before .before .before .before .before .before in cause-is _ _ (given s) (c .before .before .before .before .before .before .settle-hour .ensures .answer) (c .cause-of .ensures)
+-- once the cause is known: the function's entry, and the hour's answer
+abbrev start : tie.After-cause-of → tie.Start
+start c = c .before .before .before .before .before .before .before .before .before .before .before .before .before
 
-none : (c : tie.Else1) → let s = c .before .before .before .before .before .before .before .before .before .before .before .before .before .before in hourCause (s .args .day) (now (s .args .table)) (given s) ≡ 0
-none c = sym (cause (c .before)) ∙ c .if1 .left
+abbrev answer : tie.After-cause-of → tie.After-settle-hour
+answer c = c .before .before .before .before .before .before
+
+cause : (c : tie.After-cause-of) → c .cause-of .result ≡ hourCause (start c .args .day) (now (start c .args .table)) (given (start c))
+cause c = cause-is _ _ (given (start c)) (answer c .settle-hour .ensures .answer) (c .cause-of .ensures)
+
+-- no cause applies
+none : (e : tie.Else1) → let s = start (e .before) in hourCause (s .args .day) (now (s .args .table)) (given s) ≡ 0
+none e = sym (cause (e .before)) ∙ e .if1 .left
+
+abbrev accepted : tie.After-struct-told → tie.Else1
+accepted c = c .before .before .before .before .before .before
+
+-- ---- the needs
 
 settle-hour-requires : tie.Need-settle-hour-requires
 settle-hour-requires c κs = search needs
@@ -46,16 +59,18 @@ same-length-5 c = search needs
 
 returns : tie.Need-returns
 returns c =
-    let s = c .before .before .before .before .before .before .before .before .before .before .before .before .before .before .before .before .before .before in
-    rw (refused-text _ _ (given s) (cause (c .before .before .before .before .before)) (c .before .before .before .before .if1 .taken)) (c .before .before .write-refused .ensures)
+    let t = c .before .before .before .before in
+    let d = t .before in
+    rw (refused-text _ _ (given (start d)) (cause d) (t .if1 .taken)) (c .before .before .write-refused .ensures)
 
 settled-text-requires : tie.Need-settled-text-requires
 settled-text-requires c κs =
-    let s = c .before .before .before .before .before .before .before .before .before .before .before .before .before .before .before .before .before .before .before .before in
-    let h = c .before .before .before .before .before .before .before .before .before .before .before .before .before .settle-hour in
+    let e = accepted c in
+    let s = start (e .before) in
+    let h = answer (e .before) .settle-hour in
     let p = h .ensures in
     rw (back (s .args .terms .zone) (c .struct-told .given .0 .1))
-    (done-asks _ _ (given s) (none (c .before .before .before .before .before .before)) (p .table) (p .quantity) (p .money) (s .pre) (h .kept .1 .0) (h .kept .1 .1 .1 .1 .1 .1 .1 .1 .0))
+    (done-asks _ _ (given s) (none e) (p .table) (p .quantity) (p .money) (s .pre) (h .kept .1 .0) (h .kept .1 .1 .1 .1 .1 .1 .1 .1 .0))
 
 same-length-6 : tie.Need-same-length-6
 same-length-6 c = search needs
@@ -77,9 +92,12 @@ same-length-11 c = search needs
 
 returns-2 : tie.Need-returns-2
 returns-2 c =
-    let s = c .before .before .before .before .before .before .before .before .before .before .before .before .before .before .before .before .before .before .before .before .before .before .before .before in
-    let p = c .before .before .before .before .before .before .before .before .before .before .before .before .before .before .before .before .before .settle-hour .ensures in
-    rw (done-text _ _ (given s) (none (c .before .before .before .before .before .before .before .before .before .before)) (p .table) (p .quantity) (p .money)) (rw (back (s .args .terms .zone) (c .before .before .before .before .struct-told .given .0 .1)) at (c .before .before .before .settled-text .ensures))
+    let t = c .before .before .before .before in
+    let e = accepted t in
+    let s = start (e .before) in
+    let p = answer (e .before) .settle-hour .ensures in
+    rw (done-text _ _ (given s) (none e) (p .table) (p .quantity) (p .money))
+    (rw (back (s .args .terms .zone) (t .struct-told .given .0 .1)) at (c .before .before .before .settled-text .ensures))
 
 pub hour-text-spec : {M : Type 1} → statement M
 hour-text-spec =

@@ -9,8 +9,14 @@ use borrow.Author.Needs.{needs}
 use Rattle.firsthour.proofs.january_text.Statement.{statement}
 use Rattle.firsthour.proofs.january_text.Tie as tie
 
-answered : (c : tie.After-default-thresholds) → c .default-thresholds .result ≡ thresholdsAnswer (pos 1) (c .before .before .before .args .zone)
-answered c = rw (read (c .before .before .before .fits .zone)) at (c .default-thresholds .ensures)
+-- once the thresholds are answered: the function's entry, and the answer
+abbrev start : tie.After-default-thresholds → tie.Start
+start d = d .before .before .before
+
+answered : (d : tie.After-default-thresholds) → d .default-thresholds .result ≡ thresholdsAnswer (pos 1) (start d .args .zone)
+answered d = rw (read (start d .fits .zone)) at (d .default-thresholds .ensures)
+
+-- ---- the needs
 
 default-thresholds-requires : tie.Need-default-thresholds-requires
 default-thresholds-requires c κs = search needs
@@ -27,7 +33,9 @@ same-length c = search needs
 returns : tie.Need-returns
 unfolding withDefaults
 returns c =
-    rw (thresholds-refused (pos 1) (c .before .before .before .before .before .before .before .before .before .before .args .zone) _ (sym (c .before .before .before .before .before .number .given .1) ∙ answered (c .before .before .before .before .before .before .before))) (c .before .before .write-refused .ensures)
+    let k = c .before .before .before .before .before in
+    let d = k .before .before in
+    rw (thresholds-refused (pos 1) (start d .args .zone) _ (sym (k .number .given .1) ∙ answered d)) (c .before .before .write-refused .ensures)
 
 enum-known-thresholds : tie.Need-enum-known-thresholds
 enum-known-thresholds c = search needs
@@ -59,11 +67,14 @@ same-length-7 c = search needs
 returns-2 : tie.Need-returns-2
 unfolding withDefaults januaryTerms
 returns-2 c =
-    let a = c .before .before .before .before .before .before .before .before .before .before .before .before .before .before .before .before .before .before .before .before .before .before .args in
-    let f = c .before .before .before .before .before .before .before .before .before .before .before .before .before .before .before .before .before .before .before .before .before .before .fits in
-    let e = sym (c .before .before .before .before .before .before .before .before .before .before .before .before .before .before .before .before .before .thresholds .given .1) ∙ answered (c .before .before .before .before .before .before .before .before .before .before .before .before .before .before .before .before .before .before .before) in
-    let t = (rw (read (f .hour), read (f .zone)) at (c .before .before .before .before .before .before .before .before .before .before .before .before .before .terms-of .ensures)) ∙ ap (termsOf (a .hour) (a .zone)) (thresholds-are (pos 1) (a .zone) e) in
-    rw (accepted-text _ (thresholds-none (pos 1) (a .zone) e)) (rw t at (c .before .before .before .before .before .before .before .before .hour-text .ensures))
+    let w = c .before .before .before .before .before .before .before .before in
+    let t = w .before .before .before .before .before in
+    let g = t .before .before .before .before in
+    let d = g .before .before in
+    let s = start d in
+    let e = sym (g .thresholds .given .1) ∙ answered d in
+    let q = (rw (read (s .fits .hour), read (s .fits .zone)) at (t .terms-of .ensures)) ∙ ap (termsOf (s .args .hour) (s .args .zone)) (thresholds-are (pos 1) (s .args .zone) e) in
+    rw (accepted-text _ (thresholds-none (pos 1) (s .args .zone) e)) (rw q at (w .hour-text .ensures))
 
 pub january-text-spec : {M : Type 1} → statement M
 january-text-spec =

@@ -7,11 +7,11 @@ use borrow.Author.Needs.{needs}
 use Rattle.firsthour.proofs.main.Statement.{statement}
 use Rattle.firsthour.proofs.main.Tie as tie
 
-slice-aggregate-read-full : tie.Need-slice-aggregate-read-full
-slice-aggregate-read-full c = search needs
+slice-aggregate-read-input : tie.Need-slice-aggregate-read-input
+slice-aggregate-read-input c = search needs
 
-read-full-requires : tie.Need-read-full-requires
-read-full-requires c κs = search needs
+read-input-requires : tie.Need-read-input-requires
+read-input-requires c κs = search needs
 
 slice-aggregate-input-text : tie.Need-slice-aggregate-input-text
 slice-aggregate-input-text c = search needs
@@ -43,8 +43,8 @@ pub main-spec : {M : Type 1} → statement M
 main-spec =
     tie.close
     (tie.spec
-    slice-aggregate-read-full
-    read-full-requires
+    slice-aggregate-read-input
+    read-input-requires
     slice-aggregate-input-text
     array-share-prefix-input
     slice-aggregate-input-text-2

@@ -34,13 +34,19 @@ same-length c = search needs
 returns : tie.Need-returns
 unfolding userLine lineEnd
 returns c =
-    let f = c .before .before .before .before .before .before .before .before .before .before .before .before .before .before .before .before .before .before .before .before .before .before .before .before .before .before .fits in
-    let p₁ = rw (read (f .place)) at (c .before .before .before .before .before .before .before .before .before .before .before .before .before .before .before .before .before .before .before .before .before .before .before .write-field .ensures) in
-    let p₂ = rw (read (f .before)) at (c .before .before .before .before .before .before .before .before .before .before .before .before .before .before .before .before .before .before .before .write-field2 .ensures) in
-    let p₃ = rw (read (f .quantity)) at (c .before .before .before .before .before .before .before .before .before .before .before .before .before .before .before .write-field3 .ensures) in
-    let p₄ = rw (read (f .money)) at (c .before .before .before .before .before .before .before .before .before .before .before .write-field4 .ensures) in
-    let p₅ = rw (read (f .after)) at (c .before .before .before .before .before .before .before .write-decimal .ensures) in
-    let p₆ = c .before .before .write-bytes .ensures in
+    let at-end = c .before .before in
+    let at-after = at-end .before .before .before .before .before in
+    let at-money = at-after .before .before .before .before in
+    let at-quantity = at-money .before .before .before .before in
+    let at-before = at-quantity .before .before .before .before in
+    let at-place = at-before .before .before .before .before in
+    let f = at-place .before .before .before .fits in
+    let p₁ = rw (read (f .place)) at (at-place .write-field .ensures) in
+    let p₂ = rw (read (f .before)) at (at-before .write-field2 .ensures) in
+    let p₃ = rw (read (f .quantity)) at (at-quantity .write-field3 .ensures) in
+    let p₄ = rw (read (f .money)) at (at-money .write-field4 .ensures) in
+    let p₅ = rw (read (f .after)) at (at-after .write-decimal .ensures) in
+    let p₆ = at-end .write-bytes .ensures in
     (put-then (put-then (put-then (put-then (put-then (p₁ .0) (p₂ .0)) (p₃ .0)) (p₄ .0)) (p₅ .0)) p₆, omega (arith, p₁ .1, p₂ .1, p₃ .1, p₄ .1, p₅ .1, p₆ .ends))
 
 pub write-user-line-spec : {M : Type 1} → statement M

@@ -10,11 +10,20 @@ use borrow.Author.Needs.{needs}
 use Rattle.settlement.proofs.settle_side.Statement.{statement}
 use Rattle.settlement.proofs.settle_side.Tie as tie
 
+-- from the sizes to the function's entry, from the shares to the sizes, and from the price to the shares
 abbrev start : tie.After-size-all → tie.Start
-start c = c .before .before .before .before .before .before
+start d = d .before .before .before .before .before .before
 
-price : (c : tie.After-price-on) → toZ w64 (ofZ w64 (c .price-on .result)) ≡ priceOn (start (c .before .before .before .before .before .before .before .before .before) .args .up) (start (c .before .before .before .before .before .before .before .before .before) .args .terms)
-price c = back _ (c .price-on .ok) ∙ c .price-on .ensures
+abbrev sized : tie.After-apportion → tie.After-size-all
+sized w = w .before .before .before .before .before
+
+abbrev shared : tie.After-price-on → tie.After-apportion
+shared p = p .before .before .before .before
+
+price : (p : tie.After-price-on) → let a = start (sized (shared p)) .args in toZ w64 (ofZ w64 (p .price-on .result)) ≡ priceOn (a .up) (a .terms)
+price p = back _ (p .price-on .ok) ∙ p .price-on .ensures
+
+-- ---- the needs
 
 marks-of-requires : tie.Need-marks-of-requires
 marks-of-requires c κs = let s = c .before .before in (few (s .pre), positions-small _ (s .pre .positions))
@@ -30,10 +39,11 @@ price-on-requires c κs = search needs
 
 book-all-requires : tie.Need-book-all-requires
 book-all-requires c κs =
-    let d = c .before .before .before .before .before .before .before .before .before .before .before .before in
-    let w = c .before .before .before .before .before .before .before .apportion .ensures .shares in
-    let b = book-asked (start d .pre) _ (d .size-all .ensures) _ w in
-    (b .0, b .1, rw (price (c .before .before .before)) (price-small (start d .pre) _ (d .size-all .ensures) _ w), b .2, b .3)
+    let p = c .before .before .before in
+    let w = shared p in
+    let d = sized w in
+    let b = book-asked (start d .pre) _ (d .size-all .ensures) _ (w .apportion .ensures .shares) in
+    (b .0, b .1, rw (price p) (price-small (start d .pre) _ (d .size-all .ensures) _ (w .apportion .ensures .shares)), b .2, b .3)
 
 same-length : tie.Need-same-length
 same-length c = search needs
@@ -49,10 +59,12 @@ same-length-4 c = search needs
 
 returns : tie.Need-returns
 returns c =
-    let d = c .before .before .before .before .before .before .before .before .before .before .before .before .before .before .before .before in
-    let w = c .before .before .before .before .before .before .before .before .before .before .before .apportion .ensures in
-    side-left (start d .pre) _ (d .size-all .ensures) _ (w .shares) _ _ _ _ _ (rw (price (c .before .before .before .before .before .before .before)) at (c .before .before .before .book-all .ensures))
-    (w .cleared) (d .size-all .kept .1 .1 .0) (c .before .before .before .before .before .before .before .before .before .before .before .before .before .before .before .before .before .before .before .marks-of .ensures)
+    let b = c .before .before .before in
+    let p = b .before .before .before .before in
+    let w = shared p in
+    let d = sized w in
+    side-left (start d .pre) _ (d .size-all .ensures) _ (w .apportion .ensures .shares) _ _ _ _ _ (rw (price p) at (b .book-all .ensures))
+    (w .apportion .ensures .cleared) (d .size-all .kept .1 .1 .0) (d .before .before .before .marks-of .ensures)
 
 pub settle-side-spec : {M : Type 1} → statement M
 settle-side-spec =

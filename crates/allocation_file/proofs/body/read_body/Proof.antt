@@ -29,10 +29,11 @@ read-lines-requires c κs = search needs
 
 returns-2 : tie.Need-returns-2
 returns-2 c =
-    let a = c .before .before .before .before .before .before .before .args in
-    let l = c .before .before .before .before .line-at in
+    let r = c .before .before .before in
+    let l = r .before in
+    let a = l .before .before .before .args in
     after-refused
-    (body-faulty (now (a .file)) (a .at) (c .before .before .before .before .before .if1 .left) (now (l .result)) (l .ensures) _ (sym (c .before .before .before .read-row .ensures) ∙ c .before .cause .given .1))
+    (body-faulty (now (a .file)) (a .at) (l .before .if1 .left) (now (l .line-at .result)) (l .line-at .ensures) _ (sym (r .read-row .ensures) ∙ c .before .cause .given .1))
 
 same-length : tie.Need-same-length
 same-length c = search needs
@@ -48,10 +49,13 @@ same-length-4 c = search needs
 
 returns-3 : tie.Need-returns-3
 returns-3 c =
-    let a = c .before .before .before .before .before .before .before .before .before .before .before .before .before .before .before .before .args in
-    let l = c .before .before .before .before .before .before .before .before .before .before .before .before .before .line-at in
-    rw (body-row (now (a .file)) (a .at) (c .before .before .before .before .before .before .before .before .before .before .before .before .before .before .if1 .left) (now (l .result)) (l .ensures) (c .before .before .before .before .before .before .before .before .before .before .first .given .0 .0) (sym (c .before .before .before .before .before .before .before .before .before .before .before .before .read-row .ensures) ∙ c .before .before .before .before .before .before .before .before .before .before .first .given .1))
-    (c .before .before .before .before .read-lines .ensures)
+    let t = c .before .before .before .before in
+    let f = t .before .before .before .before .before .before in
+    let r = f .before .before in
+    let l = r .before in
+    let a = l .before .before .before .args in
+    rw (body-row (now (a .file)) (a .at) (l .before .if1 .left) (now (l .line-at .result)) (l .line-at .ensures) (f .first .given .0 .0) (sym (r .read-row .ensures) ∙ f .first .given .1))
+    (t .read-lines .ensures)
 
 pub read-body-spec : {M : Type 1} → statement M
 read-body-spec =

@@ -4,6 +4,8 @@ use Rattle.allocation_file.specs.Rows.{asRow}
 use Rattle.allocation_file.proofs.row.as_row.Statement.{statement}
 use Rattle.allocation_file.proofs.row.as_row.Tie as tie
 
+-- below, `hour`, `zone`, and so on are the states where that field is known to be well-formed
+
 enum-known-hour : tie.Need-enum-known-hour
 enum-known-hour c = search needs
 
@@ -22,7 +24,9 @@ enum-told-2 c = search needs
 
 returns-2 : tie.Need-returns-2
 unfolding asRow
-returns-2 c = rw (c .before .before .before .hour .given .1, c .enum-told2 .given .1)
+returns-2 c =
+    let hour = c .before .before .before in
+    rw (hour .hour .given .1, c .enum-told2 .given .1)
 
 enum-known-place : tie.Need-enum-known-place
 enum-known-place c = search needs
@@ -32,7 +36,10 @@ enum-told-3 c = search needs
 
 returns-3 : tie.Need-returns-3
 unfolding asRow
-returns-3 c = rw (c .before .before .before .before .before .before .hour .given .1, c .before .before .before .zone .given .1, c .enum-told3 .given .1)
+returns-3 c =
+    let zone = c .before .before .before in
+    let hour = zone .before .before .before in
+    rw (hour .hour .given .1, zone .zone .given .1, c .enum-told3 .given .1)
 
 enum-known-entry : tie.Need-enum-known-entry
 enum-known-entry c = search needs
@@ -42,7 +49,11 @@ enum-told-4 c = search needs
 
 returns-4 : tie.Need-returns-4
 unfolding asRow
-returns-4 c = rw (c .before .before .before .before .before .before .before .before .before .hour .given .1, c .before .before .before .before .before .before .zone .given .1, c .before .before .before .place .given .1, c .enum-told4 .given .1)
+returns-4 c =
+    let place = c .before .before .before in
+    let zone = place .before .before .before in
+    let hour = zone .before .before .before in
+    rw (hour .hour .given .1, zone .zone .given .1, place .place .given .1, c .enum-told4 .given .1)
 
 enum-known-exit : tie.Need-enum-known-exit
 enum-known-exit c = search needs
@@ -52,7 +63,12 @@ enum-told-5 c = search needs
 
 returns-5 : tie.Need-returns-5
 unfolding asRow
-returns-5 c = rw (c .before .before .before .before .before .before .before .before .before .before .before .before .hour .given .1, c .before .before .before .before .before .before .before .before .before .zone .given .1, c .before .before .before .before .before .before .place .given .1, c .before .before .before .entry .given .1, c .enum-told5 .given .1)
+returns-5 c =
+    let entry = c .before .before .before in
+    let place = entry .before .before .before in
+    let zone = place .before .before .before in
+    let hour = zone .before .before .before in
+    rw (hour .hour .given .1, zone .zone .given .1, place .place .given .1, entry .entry .given .1, c .enum-told5 .given .1)
 
 enum-known-title : tie.Need-enum-known-title
 enum-known-title c = search needs
@@ -62,7 +78,13 @@ enum-told-6 c = search needs
 
 returns-6 : tie.Need-returns-6
 unfolding asRow
-returns-6 c = rw (c .before .before .before .before .before .before .before .before .before .before .before .before .before .before .before .hour .given .1, c .before .before .before .before .before .before .before .before .before .before .before .before .zone .given .1, c .before .before .before .before .before .before .before .before .before .place .given .1, c .before .before .before .before .before .before .entry .given .1, c .before .before .before .exit .given .1, c .enum-told6 .given .1)
+returns-6 c =
+    let exit = c .before .before .before in
+    let entry = exit .before .before .before in
+    let place = entry .before .before .before in
+    let zone = place .before .before .before in
+    let hour = zone .before .before .before in
+    rw (hour .hour .given .1, zone .zone .given .1, place .place .given .1, entry .entry .given .1, exit .exit .given .1, c .enum-told6 .given .1)
 
 enum-known-pooling : tie.Need-enum-known-pooling
 enum-known-pooling c = search needs
@@ -72,11 +94,26 @@ enum-told-7 c = search needs
 
 returns-7 : tie.Need-returns-7
 unfolding asRow
-returns-7 c = rw (c .before .before .before .before .before .before .before .before .before .before .before .before .before .before .before .before .before .before .hour .given .1, c .before .before .before .before .before .before .before .before .before .before .before .before .before .before .before .zone .given .1, c .before .before .before .before .before .before .before .before .before .before .before .before .place .given .1, c .before .before .before .before .before .before .before .before .before .entry .given .1, c .before .before .before .before .before .before .exit .given .1, c .before .before .before .title .given .1, c .enum-told7 .given .1)
+returns-7 c =
+    let title = c .before .before .before in
+    let exit = title .before .before .before in
+    let entry = exit .before .before .before in
+    let place = entry .before .before .before in
+    let zone = place .before .before .before in
+    let hour = zone .before .before .before in
+    rw (hour .hour .given .1, zone .zone .given .1, place .place .given .1, entry .entry .given .1, exit .exit .given .1, title .title .given .1, c .enum-told7 .given .1)
 
 returns-8 : tie.Need-returns-8
 unfolding asRow
-returns-8 c = rw (c .before .before .before .before .before .before .before .before .before .before .before .before .before .before .before .before .before .before .before .hour .given .1, c .before .before .before .before .before .before .before .before .before .before .before .before .before .before .before .before .zone .given .1, c .before .before .before .before .before .before .before .before .before .before .before .before .before .place .given .1, c .before .before .before .before .before .before .before .before .before .before .entry .given .1, c .before .before .before .before .before .before .before .exit .given .1, c .before .before .before .before .title .given .1, c .before .pooling .given .1) (search needs)
+returns-8 c =
+    let pooling = c .before in
+    let title = pooling .before .before .before in
+    let exit = title .before .before .before in
+    let entry = exit .before .before .before in
+    let place = entry .before .before .before in
+    let zone = place .before .before .before in
+    let hour = zone .before .before .before in
+    rw (hour .hour .given .1, zone .zone .given .1, place .place .given .1, entry .entry .given .1, exit .exit .given .1, title .title .given .1, pooling .pooling .given .1) (search needs)
 
 pub as-row-spec : {M : Type 1} → statement M
 as-row-spec =

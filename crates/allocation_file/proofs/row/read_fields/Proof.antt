@@ -50,22 +50,29 @@ as-row-requires c κs = search needs
 
 returns : tie.Need-returns
 returns c =
+    let pooling = c .before in
+    let title = pooling .before .before in
+    let exit = title .before .before in
+    let entry = exit .before .before in
+    let place = entry .before .before in
+    let zone = place .before .before in
+    let hour = zone .before .before in
     simp (
       c .as-row .ensures,
-      c .before .read-amount4 .ensures,
-      c .before .before .field7 .ensures,
-      c .before .before .before .read-amount3 .ensures,
-      c .before .before .before .before .field6 .ensures,
-      c .before .before .before .before .before .read-amount2 .ensures,
-      c .before .before .before .before .before .before .field5 .ensures,
-      c .before .before .before .before .before .before .before .read-amount .ensures,
-      c .before .before .before .before .before .before .before .before .field4 .ensures,
-      c .before .before .before .before .before .before .before .before .before .read-unsigned2 .ensures,
-      c .before .before .before .before .before .before .before .before .before .before .field3 .ensures,
-      c .before .before .before .before .before .before .before .before .before .before .before .read-zone .ensures,
-      c .before .before .before .before .before .before .before .before .before .before .before .before .field2 .ensures,
-      c .before .before .before .before .before .before .before .before .before .before .before .before .before .read-unsigned .ensures,
-      c .before .before .before .before .before .before .before .before .before .before .before .before .before .before .field .ensures,
+      pooling .read-amount4 .ensures,
+      pooling .before .field7 .ensures,
+      title .read-amount3 .ensures,
+      title .before .field6 .ensures,
+      exit .read-amount2 .ensures,
+      exit .before .field5 .ensures,
+      entry .read-amount .ensures,
+      entry .before .field4 .ensures,
+      place .read-unsigned2 .ensures,
+      place .before .field3 .ensures,
+      zone .read-zone .ensures,
+      zone .before .field2 .ensures,
+      hour .read-unsigned .ensures,
+      hour .before .field .ensures,
     )
 
 pub read-fields-spec : {M : Type 1} → statement M
