@@ -16,6 +16,25 @@ use rules::Side;
 use rules::ThresholdsAnswer;
 use rules::ZoneDay;
 
+// The same record, field by field: of the bytes that C's layout leaves unused none is copied.
+fn same_day(day: Day) -> Day
+    ensures { λ r. ⌜ r ≡ day ⌝ }
+{
+    let h = day.h;
+    let l = day.l;
+    Day {
+        users: day.users,
+        h: ZoneDay {
+            hours: h.hours,
+            closed: h.closed,
+        },
+        l: ZoneDay {
+            hours: l.hours,
+            closed: l.closed,
+        },
+    }
+}
+
 // ---- opening
 
 #[repr(C)]
@@ -139,7 +158,7 @@ fn flat_hour(answer: HourAnswer) -> HourC
 {
     match answer {
         HourAnswer::Refused(refusal) => {
-            let day = refusal.day;
+            let day = same_day(refusal.day);
             HourC {
                 cause: refusal.number,
                 day,
@@ -151,7 +170,7 @@ fn flat_hour(answer: HourAnswer) -> HourC
             }
         }
         HourAnswer::Done(done) => {
-            let day = done.day;
+            let day = same_day(done.day);
             let outcome = done.outcome;
             flat_done(day, outcome)
         }
