@@ -42,7 +42,7 @@ pub above-suc : (rs : List ℕ) (at : ℕ) → above rs (suc at) + same rs (suc 
 above-suc rs at = count-split _ _ _ (λ r. simp (bit-ltb, bit-eqb) (omega arith)) rs
 
 -- those at hi or above it are above lo, where lo is below hi
-pub above-less : (rs : List ℕ) (lo hi : ℕ) → lo < hi → above rs hi + same rs hi ≤ above rs lo
+above-less : (rs : List ℕ) (lo hi : ℕ) → lo < hi → above rs hi + same rs hi ≤ above rs lo
 above-less rs lo hi h = count-two _ _ _ (λ r. simp (bit-ltb, bit-eqb) (omega arith)) rs
 
 -- fewer are above a larger number
@@ -52,13 +52,13 @@ above-mono [] lo hi h = zero-le
 above-mono (r ∷ rs) lo hi h = omega (arith, bit-ltb lo r, bit-ltb hi r, above-mono rs lo hi h)
 
 -- none is above the sum
-pub above-sum : (rs : List ℕ) (at : ℕ) → sum rs ≤ at → above rs at ≡ 0
+above-sum : (rs : List ℕ) (at : ℕ) → sum rs ≤ at → above rs at ≡ 0
 unfolding count sum
 above-sum [] at h = refl
 above-sum (r ∷ rs) at h = omega (arith, bit-ltb at r, above-sum rs at (omega arith))
 
 -- the remainder at i is one more like itself than stand before i
-pub same-here : (rs : List ℕ) (i : ℕ) → i < length rs → suc (same (take i rs) (getD rs i 0)) ≤ same rs (getD rs i 0)
+same-here : (rs : List ℕ) (i : ℕ) → i < length rs → suc (same (take i rs) (getD rs i 0)) ≤ same rs (getD rs i 0)
 unfolding count
 same-here [] i h = absurd (not-suc-le-zero h)
 same-here (r ∷ rs) zero h = omega (arith, bit-eqb r r)
@@ -93,7 +93,7 @@ module _ (rs : List ℕ) (n at ties : ℕ) (cut : IsCut rs n at ties) (i : ℕ) 
           )
 
 -- There is a cut of every n that no fewer remainders than n are above 0; it is looked for from `at` downwards.
-pub cut-exists : (rs : List ℕ) (n : ℕ) → n ≤ above rs 0 → (at : ℕ) → above rs (suc at) ≤ n → (s : ℕ) × ((ties : ℕ) × IsCut rs n (suc s) ties)
+cut-exists : (rs : List ℕ) (n : ℕ) → n ≤ above rs 0 → (at : ℕ) → above rs (suc at) ≤ n → (s : ℕ) × ((ties : ℕ) × IsCut rs n (suc s) ties)
 cut-exists rs n h zero k = (0, (n - above rs 1, record { adds = omega arith; fits = omega (arith, above-suc rs 0) }))
 cut-exists rs n h (suc at) k = go (ltb (above rs (suc at)) n) refl (λ j. cut-exists rs n h at j)
   where

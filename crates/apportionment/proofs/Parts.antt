@@ -70,10 +70,10 @@ module _ (sizes : List ℕ) (total : ℕ) where
     spare-le = le-of-mul-le-mul-right (omega (arith, sums sizes, ap (λ (x : ℕ). x * sum sizes) whole-spare, fractions-le sizes)) some
 
     module _ (i : ℕ) (h : i < length sizes) where
-      pub fraction-at : getD fractions i 0 ≡ fraction sizes total (getD sizes i 0)
+      fraction-at : getD fractions i 0 ≡ fraction sizes total (getD sizes i 0)
       fraction-at = getD-map (fraction sizes total) sizes i 0 0 h
 
-      pub fraction-in : i < length fractions
+      fraction-in : i < length fractions
       fraction-in = omega (arith, length-map sizes (fraction sizes total))
 
       -- the causers with a larger remainder are the users with a larger remainder

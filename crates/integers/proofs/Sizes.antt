@@ -14,7 +14,7 @@ size-add = lin2 _ (λ a b c d. simp diffs (omega linear))
 pub size-sub : (x y : ℤ) → natAbs (x -ℤ y) ≤ natAbs x + natAbs y
 size-sub = lin2 _ (λ a b c d. simp diffs (omega linear))
 
-pub size-mul : (x y : ℤ) → natAbs (x *ℤ y) ≡ natAbs x * natAbs y
+size-mul : (x y : ℤ) → natAbs (x *ℤ y) ≡ natAbs x * natAbs y
 size-mul (pos a) (pos b) = refl
 size-mul (pos a) (negsuc b) = size-neg (pos (a * suc b))
 size-mul (negsuc a) (pos b) = size-neg (pos (suc a * b))

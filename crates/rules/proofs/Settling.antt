@@ -38,7 +38,7 @@ gap = lin2 _ (λ a b c d. simp diffs (omega linear))
 not-less : (x y : ℤ) → ltZ x y ≡ false → leZ y x ≡ true
 not-less = lin2 _ (λ a b c d. omega linear)
 
-pub view : (upper lower market : ℤ) → View upper lower market (imbalanceOf upper lower market)
+view : (upper lower market : ℤ) → View upper lower market (imbalanceOf upper lower market)
 unfolding imbalanceOf
 view upper lower m = go (ltZ upper m) refl (ltZ m lower) refl
   where
