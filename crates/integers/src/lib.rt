@@ -99,12 +99,13 @@ pub fn clear(list: &mut [i64])
     }
 }
 
-pub fn clear_unsigned(list: &mut [u64])
-    ensures { λ _. ⌜ now (list .exit) ≡ replicate (length (now (list .entry))) 0 ⌝ }
+// The same of a scratch.
+pub fn clear_unsigned(scratch: &mut [u64])
+    ensures { λ _. ⌜ now (scratch .exit) ≡ replicate (length (now (scratch .entry))) 0 ⌝ }
 {
     let mut i: usize = 0;
-    while i < list.len() {
-        list[i] = 0;
+    while i < scratch.len() {
+        scratch[i] = 0;
         i += 1;
     }
 }

@@ -8,19 +8,19 @@ use Rattle.integers.proofs.clear_unsigned.Statement.{statement}
 use Rattle.integers.proofs.clear_unsigned.Tie as tie
 
 abbrev Inv-loop : tie.InvT-loop
-Inv-loop list₀ i₀ list i = (i ≤ length list₀) × Written (replicate (length list₀) 0) list₀ list i
+Inv-loop scratch₀ i₀ scratch i = (i ≤ length scratch₀) × Written (replicate (length scratch₀) 0) scratch₀ scratch i
 
 abbrev μ-loop : tie.MeasureT-loop
-μ-loop list₀ i₀ list i = length list₀ - i
+μ-loop scratch₀ i₀ scratch i = length scratch₀ - i
 
 loop-holds : tie.Need-loop-holds Inv-loop μ-loop
-loop-holds c = (omega arith, written-none _ (c .args .list .now))
+loop-holds c = (omega arith, written-none _ (c .args .scratch .now))
 
-mul-list : tie.Need-mul-list Inv-loop μ-loop
-mul-list c = search needs
+mul-scratch : tie.Need-mul-scratch Inv-loop μ-loop
+mul-scratch c = search needs
 
-slice-write-list : tie.Need-slice-write-list Inv-loop μ-loop
-slice-write-list c = search needs
+slice-write-scratch : tie.Need-slice-write-scratch Inv-loop μ-loop
+slice-write-scratch c = search needs
 
 add-i : tie.Need-add-i Inv-loop μ-loop
 add-i c = search needs
@@ -31,13 +31,13 @@ loop-less c = omega (arith, c .before .loop .inv .1 .long)
 loop-again : tie.Need-loop-again Inv-loop μ-loop
 loop-again c =
     let l = c .before .loop in
-    (omega (arith, l .inv .1 .long), filled-next 0 (c .before .before .args .list .now) (l .inv .1) (omega (arith, l .inv .1 .long)))
+    (omega (arith, l .inv .1 .long), filled-next 0 (c .before .before .args .scratch .now) (l .inv .1) (omega (arith, l .inv .1 .long)))
 
 same-length : tie.Need-same-length Inv-loop μ-loop
 same-length c = c .before .loop .inv .1 .long
 
 returns : tie.Need-returns Inv-loop μ-loop
-returns c = filled-all 0 (c .before .before .args .list .now) (c .before .loop .inv .1) (omega (arith, c .before .loop .inv .1 .long))
+returns c = filled-all 0 (c .before .before .args .scratch .now) (c .before .loop .inv .1) (omega (arith, c .before .loop .inv .1 .long))
 
 pub clear-unsigned-spec : {M : Type 1} → statement M
 clear-unsigned-spec =
@@ -46,8 +46,8 @@ clear-unsigned-spec =
     Inv-loop
     μ-loop
     loop-holds
-    mul-list
-    slice-write-list
+    mul-scratch
+    slice-write-scratch
     add-i
     loop-less
     loop-again
