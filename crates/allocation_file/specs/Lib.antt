@@ -5,6 +5,4 @@ pub mod Lines
 pub mod Numbers
 pub mod Rows
 pub mod File
-pub mod Guarantees
-pub mod Examples
 pub mod Steps

@@ -14,8 +14,9 @@ use lib.Seq.{ext-getD, getD-drop}
 use borrow.Author.Tests.{ltb-true, ltb-false}
 use Rattle.integers.specs.Lists.{bit, sum, tabulate}
 use Rattle.integers.proofs.Counts.{bit-ltb, length-tabulate, getD-tabulate}
-use Rattle.apportionment.specs.Steps.{maxSum, same, IsCut, taken, raisedBy, CutAsks}
-use Rattle.apportionment.proofs.Cuts.{above-mono, ltb-iff, taken-sum}
+use Rattle.largest_remainder.specs.Cuts.{same, IsCut, taken}
+use Rattle.apportionment.specs.Steps.{maxSum, raisedBy, CutAsks}
+use Rattle.largest_remainder.proofs.Cuts.{above-mono, ltb-iff, taken-sum}
 
 -- the test by the top bit
 pub top-bit : (r at base : ℕ) → base + at ≡ 9223372036854775807 → r ≤ maxSum → (r + base) / 9223372036854775808 ≡ bit (ltb at r)

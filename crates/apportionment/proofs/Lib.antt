@@ -1,7 +1,4 @@
--- Why the code finds the settled sizes of the rule, and what is proved of the rule.
-mod Cuts
-mod Parts
-pub mod Guarantees
+-- Why the code finds the settled sizes of the rule.
 mod Sharing
 mod Handing
 mod Whole

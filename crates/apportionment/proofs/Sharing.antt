@@ -11,10 +11,11 @@ use lib.Seq.{take-all}
 use Rattle.integers.specs.Lists.{count, sum}
 use Rattle.integers.proofs.Counts.{bit-ltb, count-step, sum-step, sum-take-le, sum-le, getD-map}
 use Rattle.integers.proofs.Passes.{Written, written-none, written-elem, written-next, written-all}
-use Rattle.apportionment.specs.Rule.{whole, fraction}
-use Rattle.apportionment.specs.Steps.{maxSum, Input, above, Shared}
-use Rattle.apportionment.proofs.Cuts.{above-mono}
-use Rattle.apportionment.proofs.Parts.{wholes-le, fraction-less}
+use Rattle.largest_remainder.specs.Rule.{whole, fraction}
+use Rattle.largest_remainder.specs.Cuts.{above}
+use Rattle.apportionment.specs.Steps.{maxSum, Input, Shared}
+use Rattle.largest_remainder.proofs.Cuts.{above-mono}
+use Rattle.largest_remainder.proofs.Parts.{wholes-le, fraction-less}
 
 -- the sum of the sizes is within its bound
 pub sum-fits : (sizes : List ℕ) (total : ℕ) → Input sizes total → sum sizes ≤ maxSum

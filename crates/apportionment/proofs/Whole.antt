@@ -11,9 +11,10 @@ use lib.Seq.{ext-getD}
 use borrow.Author.Tests.{ltb-true, ltb-false}
 use Rattle.integers.specs.Lists.{sum}
 use Rattle.integers.proofs.Counts.{getD-map, getD-le-sum}
-use Rattle.apportionment.specs.Rule.{whole, fraction, spare, settled}
-use Rattle.apportionment.specs.Steps.{maxSum, Input, above, IsCut, raisedBy, Bounded, CutAsks, HandAsks, Shared}
-use Rattle.apportionment.proofs.Parts.{wholes-le, fraction-less, spare-le, settled-cut, settled-length, settled-getD}
+use Rattle.largest_remainder.specs.Rule.{whole, fraction, spare, settled}
+use Rattle.largest_remainder.specs.Cuts.{above, IsCut}
+use Rattle.apportionment.specs.Steps.{maxSum, Input, raisedBy, Bounded, CutAsks, HandAsks, Shared}
+use Rattle.largest_remainder.proofs.Parts.{wholes-le, fraction-less, spare-le, settled-cut, settled-length, settled-getD}
 use Rattle.apportionment.proofs.Sharing.{sum-fits}
 use Rattle.apportionment.proofs.Handing.{raised-length, raised-at}
 

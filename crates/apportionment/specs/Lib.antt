@@ -1,5 +1,2 @@
--- Rule 4 of document 01: the rule, what is proved of it, examples of it, and the steps by which the code finds it.
-pub mod Rule
-pub mod Guarantees
-pub mod Examples
+-- The steps by which the code finds the settled sizes of rule 4.
 pub mod Steps

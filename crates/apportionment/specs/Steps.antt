@@ -1,13 +1,12 @@
 -- The steps by which the code finds the settled sizes, as its private contracts state them. A reader who believes the rule need not believe these. Assumes nothing.
 use mathlib.Core.Path.{_≡_}
-use mathlib.Core.Bool.{Bool, _&&_, _||_}
 use mathlib.Core.List.{List, map}
-use Prim.Native.Nat.{ℕ, _+_, _≤_, _<_}
-use lib.Dec.{ltb, eqb}
+use Prim.Native.Nat.{ℕ, _≤_, _<_}
 use lib.IntN.{ℤ, pos, natAbs, _+ℤ_}
-use lib.ListN.{length, getD, take, replicate}
-use Rattle.integers.specs.Lists.{bit, count, sum, tabulate}
-use Rattle.apportionment.specs.Rule.{whole, fraction, settled}
+use lib.ListN.{length, getD, replicate}
+use Rattle.integers.specs.Lists.{bit, sum, tabulate}
+use Rattle.largest_remainder.specs.Rule.{whole, fraction, settled}
+use Rattle.largest_remainder.specs.Cuts.{above, IsCut, taken}
 
 -- document 01's bounds: 128 users, a position of at most 100,000,000, so a sum of at most
 abbrev pub maxSum : ℕ
@@ -24,22 +23,6 @@ pub record Input (sizes : List ℕ) (total : ℕ) : Type 0 where
 pub record Apportioned (sizes : List ℕ) (total : ℕ) (sizes' : List ℕ) (out : List ℤ) : Type 0 where
   pub shares : out ≡ map pos (settled sizes total)
   pub cleared : sizes' ≡ replicate (length sizes) 0
-
--- how many remainders are above a number, and how many are it
-abbrev pub above : List ℕ → ℕ → ℕ
-above rs at = count (λ r. ltb at r) rs
-
-abbrev pub same : List ℕ → ℕ → ℕ
-same rs at = count (λ r. eqb at r) rs
-
--- A cut of n: the remainders above `at`, and the first `ties` of those that are `at`, are n.
-pub record IsCut (rs : List ℕ) (n at ties : ℕ) : Type 0 where
-  pub adds : above rs at + ties ≡ n
-  pub fits : ties ≤ same rs at
-
--- whether a cut takes the remainder at a place
-abbrev pub taken : List ℕ → ℕ → ℕ → ℕ → Bool
-taken rs at ties place = ltb at (getD rs place 0) || eqb at (getD rs place 0) && ltb (same (take place rs) at) ties
 
 -- one more at each place that a cut takes
 unfoldable pub raisedBy : List ℕ → ℕ → ℕ → List ℤ → List ℤ

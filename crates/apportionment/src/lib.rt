@@ -6,7 +6,8 @@ ghost use lib.Dec.{ltb, eqb};
 ghost use lib.IntN.{pos, natAbs, _+ℤ_};
 ghost use lib.ListN.{length};
 ghost use Rattle.integers.specs.Lists.{bit, sum};
-ghost use Rattle.apportionment.specs.Steps.{maxSum, Input, Apportioned, above, IsCut, raisedBy, Bounded, CutAsks, HandAsks, Shared};
+ghost use Rattle.largest_remainder.specs.Cuts.{above, IsCut};
+ghost use Rattle.apportionment.specs.Steps.{maxSum, Input, Apportioned, raisedBy, Bounded, CutAsks, HandAsks, Shared};
 
 const TOP_BIT: u64 = 0x8000_0000_0000_0000;
 

@@ -1,2 +1,2 @@
--- The figures, proved.
-mod Figures
+-- The figures and the whole day, by computing the definitions.
+pub mod Figures

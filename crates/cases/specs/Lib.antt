@@ -1,2 +1,3 @@
--- "Figures to be proved: cases A to K".
+-- "Figures to be proved: cases A to K", and a whole day.
 pub mod Cases
+pub mod WholeDay

@@ -1,7 +1,7 @@
 -- The causes in stages, and what each stage counts on: what the private functions promise each other. Who believes the rules need not believe these: the public
 -- contracts cite none of them. Assumes nothing.
 use mathlib.Core.Path.{_≡_}
-use mathlib.Core.Bool.{Bool, not, cond, _&&_, _||_}
+use mathlib.Core.Bool.{Bool, cond, _&&_, _||_}
 use mathlib.Core.List.{List}
 use Prim.Native.Nat.{ℕ, _≤_}
 use lib.Dec.{eqb}
@@ -13,7 +13,7 @@ use Rattle.rules.specs.declared.Day.{Day}
 use Rattle.rules.specs.Limits.{zoneFit, positionFit}
 use Rattle.rules.specs.Days.{users, hoursDone, isClosed, part}
 use Rattle.rules.specs.Refusals.{unless, _then_}
-use Rattle.rules.specs.Causes.{tableFit}
+use Rattle.rules.specs.Causes.{zoneOpen, tableFit}
 use Rattle.positions.specs.Before.{allFit, befores, Lent}
 
 -- ---- causes 3 to 6, of which the call tests the lengths and the hour
@@ -21,7 +21,7 @@ unfoldable pub formCause : Day → ℤ → Bool → Bool → ℕ
 formCause d zone long timely =
     unless long 3
     then unless (zoneFit zone) 4
-    then unless (not (isClosed zone d)) 5
+    then unless (zoneOpen zone d) 5
     then unless timely 6
 
 -- the lists of amounts, and those that a call fills, of exactly n places

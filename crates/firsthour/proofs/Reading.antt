@@ -11,7 +11,7 @@ use Rattle.allocation_file.specs.declared.FileRead.{FileRead}
 use Rattle.allocation_file.specs.declared.FileAnswer.the-variants.{Refused, Read}
 use Rattle.allocation_file.specs.declared.row.Row.{Row}
 use Rattle.allocation_file.specs.File.{File, refused, read, outcome, answerOf, listOf}
-use Rattle.allocation_file.proofs.Guarantees.{accepted-obeys}
+use Rattle.file_guarantees.proofs.Guarantees.{accepted-obeys}
 use Rattle.report.specs.Text.{refusedLine}
 use Rattle.firsthour.specs.Printed.{opened, openedNew, ofFile}
 

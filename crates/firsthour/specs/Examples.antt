@@ -2,7 +2,7 @@
 use mathlib.Core.Path.{_≡_}
 use Prim.Native.String.{String}
 use Rattle.allocation_file.specs.Bytes.{bytes}
-use Rattle.allocation_file.specs.Examples.{caseAText}
+use Rattle.file_guarantees.specs.Examples.{caseAText}
 use Rattle.report.specs.Examples.{caseAOutput}
 use Rattle.firsthour.specs.Printed.{printed}
 

@@ -104,7 +104,7 @@ fn day_after_closing(zone: i64, day: Day) -> Day
 
 // ---- the calls
 
-// "Returned: number, record".
+// What a refusal returns: "number, same record".
 fn refusal(number: u64, day: Day) -> Refusal
     ensures { λ r. ⌜ r ≡ record { number = number; day = day } ⌝ }
 {

@@ -6,7 +6,7 @@ use native.Mathlib.Omega.{arith}
 use borrow.Author.Tests.{ltb-true}
 use lib.Dec.{T}
 use lib.IntN.{ℤ, pos, negsuc, natAbs}
-use lib.Signed.{ltZ, leZ, _≤ℤ_, nonNeg}
+use lib.Signed.{ltZ, leZ, _≤ℤ_, _<ℤ_, nonNeg}
 use Rattle.integers.specs.Ranges.{inRange, equal, natural}
 use Rattle.integers.proofs.Linear.{lin1, lin2, lin3, diffs, linear, not-both}
 
@@ -21,6 +21,9 @@ both-true p q = simp (p, q)
 -- the order and its test
 pub le-of-test : {x y : ℤ} → leZ x y ≡ true → x ≤ℤ y
 le-of-test e = record { le = subst T (sym e) tt }
+
+pub lt-of-test : {x y : ℤ} → ltZ x y ≡ true → x <ℤ y
+lt-of-test e = record { lt = subst T (sym e) tt }
 
 pub test-of-le : {x y : ℤ} → x ≤ℤ y → leZ x y ≡ true
 test-of-le {x} {y} h = go (leZ x y) (h .le)

@@ -1,2 +1,3 @@
--- Rule 1 on lists that are lent.
+-- Rules 1 and 2 on what is lent.
 pub mod Before
+pub mod Against

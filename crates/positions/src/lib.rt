@@ -1,16 +1,39 @@
-// Rule 1 on signed numbers: a user's position before settlement, and the sum over all users.
+// Rules 1 and 2 on signed numbers: a user's position before settlement, the sum over all users, and what it is against the thresholds.
 ghost use mathlib.Core.Path.{_≡_};
+ghost use mathlib.Core.Bool.{true, cond};
 ghost use Prim.Native.Nat.{_≤_};
-ghost use lib.IntN.{natAbs, _+ℤ_};
+ghost use lib.IntN.{natAbs, _+ℤ_, _-ℤ_};
 ghost use lib.ListN.{length};
+ghost use lib.Signed.{ltZ};
 ghost use Rattle.integers.specs.Lists.{sumℤ, AtMost};
+ghost use Rattle.rules.specs.Causes.{termsFit};
+ghost use Rattle.rules.specs.Market.{within, excess, shortfall, imbalanceOf};
+ghost use Rattle.positions.specs.Against.{found};
+use rules::HourTerms;
 
-// "the position in the table plus entry, exit, title and pooling amounts". Exits are already negative.
+// ---- rule 1
+
+// Exits are already negative: they are added.
+fn allocated(entry: i64, exit: i64) -> i64
+    requires { ⌜ (natAbs entry ≤ 50_000_000) × (natAbs exit ≤ 50_000_000) ⌝ }
+    ensures { λ r. ⌜ r ≡ entry +ℤ exit ⌝ }
+{
+    entry + exit
+}
+
+fn transferred(title: i64, pooling: i64) -> i64
+    requires { ⌜ (natAbs title ≤ 50_000_000) × (natAbs pooling ≤ 100_000_000) ⌝ }
+    ensures { λ r. ⌜ r ≡ title +ℤ pooling ⌝ }
+{
+    title + pooling
+}
+
+// "the position in the table plus entry, exit, title and pooling amounts"
 pub fn before_of(position: i64, entry: i64, exit: i64, title: i64, pooling: i64) -> i64
     requires { ⌜ (natAbs position ≤ 100_000_000) × (natAbs entry ≤ 50_000_000) × (natAbs exit ≤ 50_000_000) × (natAbs title ≤ 50_000_000) × (natAbs pooling ≤ 100_000_000) ⌝ }
     ensures { λ r. ⌜ r ≡ position +ℤ (entry +ℤ exit +ℤ title +ℤ pooling) ⌝ }
 {
-    position + (entry + exit + title + pooling)
+    position + (allocated(entry, exit) + transferred(title, pooling))
 }
 
 // The sum of the amounts or positions of at most 128 users.
@@ -25,4 +48,61 @@ pub fn sum_of(amounts: &[i64]) -> i64
         i += 1;
     }
     sum
+}
+
+// ---- rule 2
+
+// The market position against its thresholds: within them, or an excess or a shortfall and its total.
+pub enum Imbalance {
+    Within,
+    Excess(u64),
+    Shortfall(u64),
+}
+
+// "Above the upper threshold"
+fn above_upper(terms: HourTerms, market: i64) -> bool
+    ensures { λ r. ⌜ r ≡ ltZ (terms .upper) market ⌝ }
+{
+    market > terms.upper
+}
+
+// "Below the lower one"
+fn below_lower(terms: HourTerms, market: i64) -> bool
+    ensures { λ r. ⌜ r ≡ ltZ market (terms .lower) ⌝ }
+{
+    market < terms.lower
+}
+
+// How far `high` is above `low`; how far below, where it is below.
+fn gap(low: i64, high: i64) -> u64
+    requires { ⌜ (natAbs low ≤ 12_800_000_000) × (natAbs high ≤ 12_800_000_000) ⌝ }
+    ensures { λ r. ⌜ r ≡ natAbs (high -ℤ low) ⌝ }
+{
+    integers::magnitude(high - low)
+}
+
+// The total of an excess is `over`, that of a shortfall `under`.
+fn chosen(is_excess: bool, over: u64, is_shortfall: bool, under: u64) -> Imbalance
+    ensures { λ r. ⌜ found r ≡ cond «is_excess» (excess over) (cond «is_shortfall» (shortfall under) within) ⌝ }
+{
+    if is_excess {
+        Imbalance::Excess(over)
+    } else if is_shortfall {
+        Imbalance::Shortfall(under)
+    } else {
+        Imbalance::Within
+    }
+}
+
+// "Above the upper threshold there is an excess: the difference. Below the lower one there is a shortfall: the difference, taken positive."
+pub fn imbalance_of(terms: HourTerms, market: i64) -> Imbalance
+    requires { ⌜ (termsFit terms ≡ true) × (natAbs market ≤ 12_800_000_000) ⌝ }
+    ensures { λ r. ⌜ found r ≡ imbalanceOf (terms .upper) (terms .lower) market ⌝ }
+{
+    chosen(
+        above_upper(terms, market),
+        gap(terms.upper, market),
+        below_lower(terms, market),
+        gap(market, terms.lower),
+    )
 }

@@ -1,6 +1,6 @@
 -- What an accepted hour and an accepted closing may count on: all that the causes rule out. Assumes nothing.
 use mathlib.Core.Path.{_≡_, refl, sym}
-use mathlib.Core.Bool.{true, false, not, _&&_}
+use mathlib.Core.Bool.{Bool, true, false, _&&_}
 use mathlib.Core.List.{List}
 use Prim.Native.Nat.{ℕ, _≤_}
 use borrow.Author.Tests.{leb-true, eqb-true, not-true}
@@ -20,32 +20,51 @@ use Rattle.rules.specs.declared.HourTerms.{HourTerms}
 use Rattle.rules.specs.Limits.{usersFit, zoneFit, positionFit, upperFit, lowerFit}
 use Rattle.rules.specs.Days.{users, isClosed, firstPlace, part}
 use Rattle.rules.specs.Hours.{Hour, Closing}
-use Rattle.rules.specs.Causes.{hourCause, closingCause, dayFit, tableLong, listLong, scratchLong, hourLong, closingLong, positionsFit, tableFit, termsFit}
+use Rattle.rules.specs.Causes.{hourCause, closingCause, dayFit, tableLong, listLong, scratchLong, hourLong, closingLong, zoneOpen, positionsFit, tableFit, termsFit}
 use Rattle.rules.specs.Refusals.{unless, _then_}
 use Rattle.rules.specs.Answers.{hourAnswer, hourNumber, closingAnswer, closingNumber}
 use Rattle.rules.specs.Guarantees.{HourFit, ClosingFit}
 use Rattle.rules.proofs.Refusing.{unless-none, then-none, by-number}
 use Rattle.rules.proofs.Zones.{Zone, zone-of}
 
+-- ---- what an hour and a closing test first, in the same order
+record FirstTests (day long zoned open′ : Bool) (rest : ℕ) : Type 0 where
+  day-fits : day ≡ true
+  lengths : long ≡ true
+  zone : zoned ≡ true
+  is-open : open′ ≡ true
+  later : rest ≡ 0
+
+first-tests : {day long zoned open′ : Bool} {rest : ℕ}
+    → (unless day 2 then unless long 3 then unless zoned 4 then unless open′ 5 then rest) ≡ 0 → FirstTests day long zoned open′ rest
+first-tests k2 =
+    let k3 = then-none k2 .1 in
+    let k4 = then-none k3 .1 in
+    let k5 = then-none k4 .1 in
+    record {
+      day-fits = unless-none _ _ (lit< tt) (then-none k2 .0);
+      lengths = unless-none _ _ (lit< tt) (then-none k3 .0);
+      zone = unless-none _ _ (lit< tt) (then-none k4 .0);
+      is-open = unless-none _ _ (lit< tt) (then-none k5 .0);
+      later = then-none k5 .1;
+    }
+
 -- ---- an hour is accepted if and only if no listed cause exists
 module _ (d : Day) (t : List ℤ) (g : Hour) where
   pub hour-fit : hourCause d t g ≡ 0 → HourFit d t g
   unfolding hourCause
-  hour-fit k2 =
-      let k3 = then-none k2 .1 in
-      let k4 = then-none k3 .1 in
-      let k5 = then-none k4 .1 in
-      let k6 = then-none k5 .1 in
-      let k7 = then-none k6 .1 in
+  hour-fit k =
+      let f = first-tests k in
+      let k7 = then-none (f .later) .1 in
       let k8 = then-none k7 .1 in
       let k9 = then-none k8 .1 in
       let k10 = then-none k9 .1 in
       record {
-        day = unless-none _ _ (lit< tt) (then-none k2 .0);
-        lengths = unless-none _ _ (lit< tt) (then-none k3 .0);
-        zone = unless-none _ _ (lit< tt) (then-none k4 .0);
-        open′ = unless-none _ _ (lit< tt) (then-none k5 .0);
-        next = unless-none _ _ (lit< tt) (then-none k6 .0);
+        day = f .day-fits;
+        lengths = f .lengths;
+        zone = f .zone;
+        open′ = f .is-open;
+        next = unless-none _ _ (lit< tt) (then-none (f .later) .0);
         table = unless-none _ _ (lit< tt) (then-none k7 .0);
         terms = unless-none _ _ (lit< tt) (then-none k8 .0);
         amounts = unless-none _ _ (lit< tt) (then-none k9 .0);
@@ -65,18 +84,15 @@ module _ (d : Day) (t : List ℤ) (g : Hour) where
 module _ (d : Day) (t : List ℤ) (g : Closing) where
   pub closing-fit : closingCause d t g ≡ 0 → ClosingFit d t g
   unfolding closingCause
-  closing-fit k2 =
-      let k3 = then-none k2 .1 in
-      let k4 = then-none k3 .1 in
-      let k5 = then-none k4 .1 in
-      let k6 = then-none k5 .1 in
-      let k7 = then-none k6 .1 in
+  closing-fit k =
+      let f = first-tests k in
+      let k7 = then-none (f .later) .1 in
       record {
-        day = unless-none _ _ (lit< tt) (then-none k2 .0);
-        lengths = unless-none _ _ (lit< tt) (then-none k3 .0);
-        zone = unless-none _ _ (lit< tt) (then-none k4 .0);
-        open′ = unless-none _ _ (lit< tt) (then-none k5 .0);
-        done = unless-none _ _ (lit< tt) (then-none k6 .0);
+        day = f .day-fits;
+        lengths = f .lengths;
+        zone = f .zone;
+        open′ = f .is-open;
+        done = unless-none _ _ (lit< tt) (then-none (f .later) .0);
         table = unless-none _ _ (lit< tt) (then-none k7 .0);
         prices = unless-none _ _ (lit< tt) (then-none k7 .1);
       }
@@ -95,7 +111,6 @@ pub record Sound (d : Day) (t : List ℤ) (zone : ℤ) : Type 0 where
   pub few : users d ≤ 128
   pub long : length t ≡ 256
   pub zoned : Zone zone
-  pub opened : isClosed zone d ≡ false
 
 pub users-range : (n : ℤ) → usersFit n ≡ true → (1 ≤ natural n) × (natural n ≤ 128)
 unfolding usersFit natural
@@ -110,22 +125,35 @@ pub table-long : (t : List ℤ) → tableLong t ≡ true → length t ≡ 256
 unfolding tableLong
 table-long t e = eqb-true (length t) 256 e
 
-sound-of : (d : Day) (t : List ℤ) (zone : ℤ) → dayFit d ≡ true → tableLong t ≡ true → zoneFit zone ≡ true → not (isClosed zone d) ≡ true → Sound d t zone
-sound-of d t zone day long zoned open′ =
+sound-of : (d : Day) (t : List ℤ) (zone : ℤ) → dayFit d ≡ true → tableLong t ≡ true → zoneFit zone ≡ true → Sound d t zone
+sound-of d t zone day long zoned =
     let n = users-of d day in
-    record { some = n .0; few = n .1; long = table-long t long; zoned = zone-of zone zoned; opened = not-true (isClosed zone d) open′ }
+    record { some = n .0; few = n .1; long = table-long t long; zoned = zone-of zone zoned }
 
 pub hour-sound : (d : Day) (t : List ℤ) (g : Hour) → hourCause d t g ≡ 0 → Sound d t (g .terms .zone)
-unfolding hourLong
+unfolding hourCause hourLong
 hour-sound d t g k =
-    let f = hour-fit d t g k in
-    sound-of d t (g .terms .zone) (f .day) (and-true (tableLong t) _ (f .lengths) .0) (f .zone) (f .open′)
+    let f = first-tests k in
+    sound-of d t (g .terms .zone) (f .day-fits) (and-true (tableLong t) _ (f .lengths) .0) (f .zone)
 
 pub closing-sound : (d : Day) (t : List ℤ) (g : Closing) → closingCause d t g ≡ 0 → Sound d t (g .terms .zone)
-unfolding closingLong
+unfolding closingCause closingLong
 closing-sound d t g k =
-    let f = closing-fit d t g k in
-    sound-of d t (g .terms .zone) (f .day) (and-true (tableLong t) _ (f .lengths) .0) (f .zone) (f .open′)
+    let f = first-tests k in
+    sound-of d t (g .terms .zone) (f .day-fits) (and-true (tableLong t) _ (f .lengths) .0) (f .zone)
+
+-- ---- and that the zone is not closed
+open-zone : (zone : ℤ) (d : Day) → zoneOpen zone d ≡ true → isClosed zone d ≡ false
+unfolding zoneOpen
+open-zone zone d e = not-true (isClosed zone d) e
+
+pub hour-open : (d : Day) (t : List ℤ) (g : Hour) → hourCause d t g ≡ 0 → isClosed (g .terms .zone) d ≡ false
+unfolding hourCause
+hour-open d t g k = open-zone (g .terms .zone) d (first-tests k .is-open)
+
+pub closing-open : (d : Day) (t : List ℤ) (g : Closing) → closingCause d t g ≡ 0 → isClosed (g .terms .zone) d ≡ false
+unfolding closingCause
+closing-open d t g k = open-zone (g .terms .zone) d (first-tests k .is-open)
 
 -- ---- the lists and the scratch have a place for each user
 pub record HourLengths (n : ℕ) (g : Hour) : Type 0 where

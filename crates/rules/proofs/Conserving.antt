@@ -19,7 +19,7 @@ use Rattle.rules.specs.declared.Day.{Day}
 use Rattle.rules.specs.declared.ZoneDay.{ZoneDay}
 use Rattle.rules.specs.declared.OpenAnswer.the-variants.{Refused as OpenRefused, Opened}
 use Rattle.rules.specs.Refusals.{byCause}
-use Rattle.rules.specs.Days.{users, zoneDay, isClosed, newDay, dayAfterHour, dayAfterClosing, firstPlace, part, place, onto}
+use Rattle.rules.specs.Days.{users, zoneDay, hoursDone, isClosed, newDay, dayAfterHour, dayAfterClosing, firstPlace, part, place, onto}
 use Rattle.rules.specs.Hours.{Hour, Closing, amounts, before, standing}
 use Rattle.rules.specs.Market.{after}
 use Rattle.rules.specs.Causes.{openCause, hourCause, closingCause}
@@ -27,7 +27,7 @@ use Rattle.rules.specs.Answers.{openAnswer, openTable, hourImbalance, ho
 use Rattle.rules.specs.History.{Call, hour, closing, State, opened, step, run, hourAccepted, closingAccepted, addsFirst, addsSecond, firstSum, secondSum, closesNow, closes}
 use Rattle.rules.proofs.Refusing.{unless-none, then-none, by-none, by-some, by-ap}
 use Rattle.rules.proofs.Zones.{Zone, H, L, length-part, part-changed, part-other, length-onto, getD-onto, users-kept, closed-hour, closed-closing}
-use Rattle.rules.proofs.Accepted.{users-range, hour-sound, closing-sound, hour-number, closing-number}
+use Rattle.rules.proofs.Accepted.{users-range, hour-sound, closing-sound, hour-open, closing-open, hour-number, closing-number}
 use Rattle.rules.proofs.Settling.{length-after, after-at}
 
 pub length-before : (d : Day) (t : List ℤ) (g : Hour) → length (before d t g) ≡ users d
@@ -195,18 +195,35 @@ pub open-users : (n : ℤ) (t : List ℤ) → openCause n t ≡ 0 → natural n 
 unfolding openCause
 open-users n t k = users-range n (unless-none _ _ (lit< tt) (then-none k .0)) .1
 
-pub open-zero : (n : ℤ) (t : List ℤ) → openCause n t ≡ 0 → {zone : ℤ} → Zone zone → (p : ℕ) → p < 128 → place zone p (openTable n t) ≡ pos 0
-unfolding openTable place part firstPlace
-open-zero n t k H p h = rw (by-none _ _ _ k) (getD-replicate 128 p (pos 0) (pos 0) h)
-open-zero n t k L p h = rw (by-none _ _ _ k) (getD-replicate 128 p (pos 0) (pos 0) h)
+pub open-table : (n : ℤ) (t : List ℤ) → openCause n t ≡ 0 → openTable n t ≡ replicate 256 (pos 0)
+unfolding openTable
+open-table n t k = by-none _ _ _ k
 
-pub new-open : (zone n : ℤ) → isClosed zone (newDay n) ≡ false
-unfolding newDay isClosed zoneDay
-new-open zone n = go (isZero zone)
-  where
-    go : (b : Bool) → (cond {A = ZoneDay} b (record { hours = pos 0; closed = false }) (record { hours = pos 0; closed = false })) .closed ≡ false
-    go true = refl
-    go false = refl
+zero-place : {zone : ℤ} → Zone zone → (p : ℕ) → p < 128 → place zone p (replicate 256 (pos 0)) ≡ pos 0
+unfolding place part firstPlace
+zero-place H p h = getD-replicate 128 p (pos 0) (pos 0) h
+zero-place L p h = getD-replicate 128 p (pos 0) (pos 0) h
+
+pub open-zero : (n : ℤ) (t : List ℤ) → openCause n t ≡ 0 → {zone : ℤ} → Zone zone → (p : ℕ) → p < 128 → place zone p (openTable n t) ≡ pos 0
+open-zero n t k {zone} zoned p h = ap (place zone p) (open-table n t k) ∙ zero-place zoned p h
+
+-- whichever zone: no hours done, and not closed
+module _ (zone n : ℤ) where
+  by-zone : {A : Type 0} (f : ZoneDay → A) (a : A) → f (newDay n .h) ≡ a → f (newDay n .l) ≡ a → f (zoneDay zone (newDay n)) ≡ a
+  unfolding zoneDay
+  by-zone f a h l = go (isZero zone)
+    where
+      go : (b : Bool) → f (cond b (newDay n .h) (newDay n .l)) ≡ a
+      go true = h
+      go false = l
+
+  pub new-hours : hoursDone zone (newDay n) ≡ pos 0
+  unfolding newDay hoursDone
+  new-hours = by-zone (λ z. z .hours) (pos 0) refl refl
+
+  pub new-open : isClosed zone (newDay n) ≡ false
+  unfolding newDay isClosed
+  new-open = by-zone (λ z. z .closed) false refl refl
 
 -- ---- a closed zone
 clash : (d : Day) (y z : ℤ) → isClosed y d ≡ false → isClosed z d ≡ true → y ≡ z → ⊥
@@ -246,12 +263,12 @@ unfolding step
 closed-step zone zoned s (hour g) h = go (eq-zero-or-pos (hourCause (s .day) (s .table) g))
   where
     go : (hourCause (s .day) (s .table) g ≡ 0) ⊎ (0 < hourCause (s .day) (s .table) g) → part zone (hourTable (s .day) (s .table) g) ≡ part zone (s .table)
-    go (inl k) = hour-other (s .day) (s .table) g k zone zoned (clash (s .day) (g .terms .zone) zone (hour-sound (s .day) (s .table) g k .opened) h)
+    go (inl k) = hour-other (s .day) (s .table) g k zone zoned (clash (s .day) (g .terms .zone) zone (hour-open (s .day) (s .table) g k) h)
     go (inr k) = ap (part zone) (hour-refused (s .day) (s .table) g k)
 closed-step zone zoned s (closing g) h = go (eq-zero-or-pos (closingCause (s .day) (s .table) g))
   where
     go : (closingCause (s .day) (s .table) g ≡ 0) ⊎ (0 < closingCause (s .day) (s .table) g) → part zone (closingTable (s .day) (s .table) g) ≡ part zone (s .table)
-    go (inl k) = closing-other (s .day) (s .table) g k zone zoned (clash (s .day) (g .terms .zone) zone (closing-sound (s .day) (s .table) g k .opened) h)
+    go (inl k) = closing-other (s .day) (s .table) g k zone zoned (clash (s .day) (g .terms .zone) zone (closing-open (s .day) (s .table) g k) h)
     go (inr k) = ap (part zone) (closing-refused (s .day) (s .table) g k)
 
 closed-run : (zone : ℤ) → Zone zone → (s : State) (cs : List Call) → isClosed zone (s .day) ≡ true → part zone (run s cs .table) ≡ part zone (s .table)

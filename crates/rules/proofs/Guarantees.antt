@@ -8,27 +8,32 @@ use native.Mathlib.Omega.{arith}
 use native.Mathlib.Nat.{eq-zero-or-pos}
 use lib.IntN.{ℤ, pos, _+ℤ_, +ℤ-idr}
 use lib.ListN.{length, getD, length-map, List·getD-map}
-use Rattle.integers.specs.Lists.{count}
+use Rattle.integers.specs.Lists.{sumℤ, count}
 use Rattle.integers.proofs.Counts.{count-map}
 use Rattle.rules.specs.declared.Day.{Day}
 use Rattle.rules.specs.declared.HourDone.{HourDone}
 use Rattle.rules.specs.declared.Marks.{Marks}
 use Rattle.rules.specs.declared.Side.{Side}
+use Rattle.rules.specs.declared.Outcome.{Outcome}
 use Rattle.rules.specs.declared.Outcome.the-variants.{Settled}
 use Rattle.rules.specs.declared.HourAnswer.the-variants.{Refused as HourRefused, Done}
 use Rattle.rules.specs.Days.{users, zoneDay, isClosed, newDay, dayAfterHour}
-use Rattle.rules.specs.Hours.{before}
-use Rattle.rules.specs.Market.{Imbalance, within, excess, shortfall, caused, causers, marks, outcome}
+use Rattle.rules.specs.Hours.{Hour, before}
+use Rattle.rules.specs.Market.{Imbalance, within, excess, shortfall, imbalance, caused, causers, marks, outcome}
 use Rattle.rules.specs.Causes.{hourCause, beforeFit}
 use Rattle.rules.specs.Answers.{hourAnswer, hourImbalance, hourQuantity}
 use Rattle.rules.specs.History.{opened, firstSum, closes}
-use Rattle.rules.specs.Guarantees.{AcceptedIfFit, Conservation, ClosedIsZero, ClosedIsMarked, Accuracy, marked, MarksAreCausers}
+use Rattle.rules.specs.Guarantees.{BeginsAtZero, AcceptedIfFit, Conservation, ClosedIsZero, ClosedIsMarked, Accuracy, OutcomeTells, OutcomeByThresholds, marked, MarksAreCausers}
 use Rattle.rules.proofs.Refusing.{by-none, by-some}
 use Rattle.rules.proofs.Zones.{zone-of}
 use Rattle.rules.proofs.Accepted.{hour-fit, fit-hour, hour-sound, hour-number, closing-fit, fit-closing, closing-number, thresholds-sound}
 use Rattle.rules.proofs.Marking.{marked-at, marks-number}
-use Rattle.rules.proofs.Settling.{settles}
-use Rattle.rules.proofs.Conserving.{length-before, positions-left, balance, opened-by, open-users, open-zero, new-open, marked-run, closed-zero}
+use Rattle.rules.proofs.Settling.{view, settles}
+use Rattle.rules.proofs.Telling.{tells}
+use Rattle.rules.proofs.Conserving.{length-before, positions-left, balance, opened-by, open-users, open-table, open-zero, new-hours, new-open, marked-run, closed-zero}
+
+pub begins-at-zero : BeginsAtZero
+begins-at-zero n t d e = let (k, q) = opened-by n t d e in (open-table n t k, λ zone. rw q (new-hours zone n))
 
 pub accepted-if-fit : AcceptedIfFit
 accepted-if-fit = (
@@ -63,6 +68,34 @@ accuracy d t g a =
     let b = thresholds-sound (g .terms) (f .terms) in
     rw (by-none (hourCause d t g) _ _ k, positions-left d t g k) (settles (g .terms .upper) (g .terms .lower) (before d t g) (b .0) (b .1) (f .positions))
 
+-- ---- the outcome of an accepted hour
+
+-- an hour that is done has no cause, and its outcome is the one defined
+done-by : (d : Day) (t : List ℤ) (g : Hour) (d' : Day) (o : Outcome) → hourAnswer d t g ≡ Done (record { day = d'; outcome = o })
+    → (hourCause d t g ≡ 0) × (outcome (hourImbalance d t g) (before d t g) ≡ o)
+unfolding hourAnswer
+done-by d t g d' o e = go (eq-zero-or-pos (hourCause d t g))
+  where
+    done : HourDone
+    done = record { day = dayAfterHour (g .terms .zone) d; outcome = outcome (hourImbalance d t g) (before d t g) }
+
+    go : (hourCause d t g ≡ 0) ⊎ (0 < hourCause d t g) → (hourCause d t g ≡ 0) × (outcome (hourImbalance d t g) (before d t g) ≡ o)
+    go (inl k) =
+        let q : Done done ≡ Done (record { day = d'; outcome = o }) = sym (by-none _ _ _ k) ∙ e in
+        let r : _≡_ {A = HourDone} done (record { day = d'; outcome = o }) = cc in
+        (k, ap (λ (x : HourDone). x .outcome) r)
+    go (inr k) =
+        let q : HourRefused (record { number = hourCause d t g; day = d }) ≡ Done (record { day = d'; outcome = o }) = sym (by-some _ _ _ k) ∙ e in
+        let z : _≡_ {A = ℕ} 0 1 = cc in
+        absurd (omega arith)
+
+pub outcome-by-thresholds : OutcomeByThresholds
+unfolding hourImbalance imbalance
+outcome-by-thresholds d t g d' o e =
+    let (k, q) = done-by d t g d' o e in
+    let b = thresholds-sound (g .terms) (hour-fit d t g k .terms) in
+    rw q at (tells (g .terms .upper) (g .terms .lower) (sumℤ (before d t g)) (b .0) (b .1) (before d t g) (view (g .terms .upper) (g .terms .lower) (sumℤ (before d t g))))
+
 -- ---- the marks
 
 -- a place beyond the users is no causer's
@@ -79,25 +112,10 @@ marks-are (excess n) ps side m e = cc
 marks-are (shortfall n) ps side m e = cc
 
 pub marks-are-causers : MarksAreCausers
-unfolding hourAnswer causers
-marks-are-causers d t g d' side m e = go (eq-zero-or-pos (hourCause d t g))
-  where
-    i : Imbalance
-    i = hourImbalance d t g
-
-    ps : List ℤ
-    ps = before d t g
-
-    go : (hourCause d t g ≡ 0) ⊎ (0 < hourCause d t g)
-        → ((p : ℕ) → p < 128 → marked m p ≡ caused (hourImbalance d t g) (getD (before d t g) p (pos 0)))
-        × (m .number ≡ count (caused (hourImbalance d t g)) (before d t g))
-    go (inl k) =
-        let q : Done (record { day = dayAfterHour (g .terms .zone) d; outcome = outcome i ps }) ≡ Done (record { day = d'; outcome = Settled side m }) = sym (by-none _ _ _ k) ∙ e in
-        let r : _≡_ {A = HourDone} (record { day = dayAfterHour (g .terms .zone) d; outcome = outcome i ps }) (record { day = d'; outcome = Settled side m }) = cc in
-        let s : m ≡ marks (causers i ps) = marks-are i ps side m (ap (λ (x : HourDone). x .outcome) r) in
-        let few : length (causers i ps) ≤ 128 = omega (arith, length-map ps (caused i), length-before d t g, hour-sound d t g k .few) in
-        rw s ((λ p h. marked-at (causers i ps) few p h ∙ causer-at i ps p), marks-number (causers i ps) few ∙ count-map (λ b. b) (caused i) ps)
-    go (inr k) =
-        let q : HourRefused (record { number = hourCause d t g; day = d }) ≡ Done (record { day = d'; outcome = Settled side m }) = sym (by-some _ _ _ k) ∙ e in
-        let z : _≡_ {A = ℕ} 0 1 = cc in
-        absurd (omega arith)
+unfolding causers
+marks-are-causers d t g d' side m e =
+    let i = hourImbalance d t g in
+    let ps = before d t g in
+    let (k, q) = done-by d t g d' (Settled side m) e in
+    let few : length (causers i ps) ≤ 128 = omega (arith, length-map ps (caused i), length-before d t g, hour-sound d t g k .few) in
+    rw (marks-are i ps side m q) ((λ p h. marked-at (causers i ps) few p h ∙ causer-at i ps p), marks-number (causers i ps) few ∙ count-map (λ b. b) (caused i) ps)

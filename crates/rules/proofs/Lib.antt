@@ -7,6 +7,6 @@ pub mod Accepted
 pub mod Small
 pub mod Marking
 pub mod Settling
+pub mod Telling
 pub mod Conserving
 pub mod Guarantees
-mod Examples

@@ -18,8 +18,8 @@ use Rattle.integers.proofs.Tests.{both-true, le-of-test, test-of-le}
 use Rattle.integers.proofs.Counts.{getD-map}
 use Rattle.integers.proofs.Sums.{sum-zip-sub, length-zip, getD-zip}
 use Rattle.integers.proofs.Passes.{every-at}
-use Rattle.apportionment.specs.Rule.{settled}
-use Rattle.apportionment.proofs.Guarantees.{adds-up, accurate, no-more-than-size, settled-long}
+use Rattle.largest_remainder.specs.Rule.{settled}
+use Rattle.largest_remainder.proofs.Guarantees.{adds-up, accurate, no-more-than-size, settled-long}
 use Rattle.rules.specs.Limits.{positionFit}
 use Rattle.rules.specs.Market.{Imbalance, within, excess, shortfall, imbalanceOf, imbalance, total, caused, size, sizes, settledSizes, signed, quantities, after}
 use Rattle.rules.specs.Guarantees.{UserAccurate, Accurate}
@@ -38,7 +38,7 @@ gap = lin2 _ (λ a b c d. simp diffs (omega linear))
 not-less : (x y : ℤ) → ltZ x y ≡ false → leZ y x ≡ true
 not-less = lin2 _ (λ a b c d. omega linear)
 
-view : (upper lower market : ℤ) → View upper lower market (imbalanceOf upper lower market)
+pub view : (upper lower market : ℤ) → View upper lower market (imbalanceOf upper lower market)
 unfolding imbalanceOf
 view upper lower m = go (ltZ upper m) refl (ltZ m lower) refl
   where
@@ -67,7 +67,7 @@ module _ (i : Imbalance) (ps : List ℤ) where
     unfolding sizes
     size-at = getD-map (size i) ps u 0 (pos 0) h
 
-    quantity-at : getD (quantities i ps) u (pos 0) ≡ signed i (getD (settled (sizes i ps) (total i)) u 0)
+    quantity-at : getD (quantities i ps) u (pos 0) ≡ signed i (getD (settledSizes i ps) u 0)
     unfolding quantities settledSizes
     quantity-at = getD-map (signed i) (settledSizes i ps) u (pos 0) 0 (omega (arith, settled-long (sizes i ps) (total i), length-sizes))
 
@@ -76,6 +76,11 @@ module _ (i : Imbalance) (ps : List ℤ) where
     after-at = getD-zip _-ℤ_ ps (quantities i ps) u (pos 0) (pos 0) (pos 0) h (omega (arith, length-quantities))
 
 -- ---- a causer's size is its position, or its negated position, as a natural number
+-- whoever is below zero in an excess has no size
+size-below : (n m : ℕ) → size (excess n) (negsuc m) ≡ 0
+unfolding size caused
+size-below n m = refl
+
 pub size-excess : (n : ℕ) (p : ℤ) → size (excess n) p ≡ natural p
 unfolding size caused natural
 size-excess n (pos m) = go (ltb 0 m) refl
@@ -83,7 +88,7 @@ size-excess n (pos m) = go (ltb 0 m) refl
     go : (b : Bool) → ltb 0 m ≡ b → cond b m 0 ≡ m
     go true e = refl
     go false e = omega (arith, ltb-false 0 m e)
-size-excess n (negsuc m) = refl
+size-excess n (negsuc m) = size-below n m
 
 pub size-shortfall : (n : ℕ) (p : ℤ) → size (shortfall n) p ≡ natural (negℤ p)
 unfolding size caused natural
@@ -356,6 +361,7 @@ module _ (upper lower : ℤ) (ps : List ℤ) (top : leZ (pos 0) upper ≡ true) 
       never (shortfall e) = refl
 
   user-any : {i : Imbalance} → View upper lower (sumℤ ps) i → (u : ℕ) → UserAccurate i (sum (sizes i ps)) (getD ps u (pos 0)) (getD (quantities i ps) u (pos 0)) (getD (after i ps) u (pos 0))
+  unfolding settledSizes
   user-any {i} w u = go (ltb u (length ps)) refl
     where
       go : (b : Bool) → ltb u (length ps) ≡ b → UserAccurate i (sum (sizes i ps)) (getD ps u (pos 0)) (getD (quantities i ps) u (pos 0)) (getD (after i ps) u (pos 0))
@@ -373,4 +379,4 @@ module _ (upper lower : ℤ) (ps : List ℤ) (top : leZ (pos 0) upper ≡ true) 
   settles =
       let w = view upper lower (sumℤ ps) in
       let m = market-after upper lower ps top bottom w in
-      record { not-above = le-of-test (m .not-above); not-below = le-of-test (m .not-below); adds-up = m .adds; each = user-any w }
+      record { not-above = le-of-test (m .not-above); not-below = le-of-test (m .not-below); adds-up = m .adds; by-rules = quantity-at _ ps; each = user-any w }

@@ -43,7 +43,11 @@ hourLong d t g =
 unfoldable pub closingLong : Day → List ℤ → Closing → Bool
 closingLong d t g = tableLong t && (listLong d (g .quantity) && listLong d (g .money))
 
--- ---- 4, "zone not 0 or 1", is `zoneFit`; 5, "zone closed", is `isClosed`
+-- ---- 4, "zone not 0 or 1", is `zoneFit`
+
+-- ---- 5: "zone closed"
+unfoldable pub zoneOpen : ℤ → Day → Bool
+zoneOpen zone d = not (isClosed zone d)
 
 -- ---- 6: "hour is not hours done plus 1, or above 24; at closing, hours done below 24"
 unfoldable pub hourNext : Day → HourTerms → Bool
@@ -102,7 +106,7 @@ hourCause d t g =
     unless (dayFit d) 2
     then unless (hourLong d t g) 3
     then unless (zoneFit (g .terms .zone)) 4
-    then unless (not (isClosed (g .terms .zone) d)) 5
+    then unless (zoneOpen (g .terms .zone) d) 5
     then unless (hourNext d (g .terms)) 6
     then unless (tableFit d t) 7
     then unless (termsFit (g .terms)) 8
@@ -116,7 +120,7 @@ closingCause d t g =
     unless (dayFit d) 2
     then unless (closingLong d t g) 3
     then unless (zoneFit (g .terms .zone)) 4
-    then unless (not (isClosed (g .terms .zone) d)) 5
+    then unless (zoneOpen (g .terms .zone) d) 5
     then unless (allDone d (g .terms)) 6
     then unless (tableFit d t) 7
     then unless (pricesFit (g .terms .«excess_price») (g .terms .«shortfall_price»)) 8

@@ -11,4 +11,3 @@ pub mod Promises
 pub mod History
 pub mod Guarantees
 pub mod Compute
-pub mod Examples

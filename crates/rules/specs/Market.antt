@@ -7,7 +7,7 @@ use lib.IntN.{ℤ, pos, natAbs, negℤ, _-ℤ_, _*ℤ_}
 use lib.ListN.{take, drop}
 use lib.Signed.{ltZ}
 use Rattle.integers.specs.Lists.{sumℤ, bit}
-use Rattle.apportionment.specs.Rule.{settled}
+use Rattle.largest_remainder.specs.Rule.{settled}
 use Rattle.rules.specs.declared.Marks.{Marks}
 use Rattle.rules.specs.declared.Side.the-variants.{Excess, Shortfall}
 use Rattle.rules.specs.declared.Outcome.{Outcome}

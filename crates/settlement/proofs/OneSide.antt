@@ -9,9 +9,9 @@ use lib.Dec.{ltb}
 use lib.IntN.{ℤ, pos, negℤ, natAbs, _-ℤ_, _*ℤ_, zero-*ℤ}
 use lib.ListN.{length, replicate, length-map}
 use Rattle.integers.specs.Lists.{AtMost}
-use Rattle.apportionment.specs.Rule.{settled}
+use Rattle.largest_remainder.specs.Rule.{settled}
 use Rattle.apportionment.specs.Steps.{Input}
-use Rattle.apportionment.proofs.Guarantees.{no-more-than-size}
+use Rattle.largest_remainder.proofs.Guarantees.{no-more-than-size}
 use Rattle.rules.specs.declared.HourTerms.{HourTerms}
 use Rattle.rules.specs.declared.Marks.{Marks}
 use Rattle.rules.specs.Market.{excess, shortfall, total, caused, size, sizes, settledSizes, signed, quantities, after, moneyOf, moneys, marks, causers}

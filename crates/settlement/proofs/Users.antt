@@ -1,5 +1,5 @@
 -- What the users' settlement has to show between its calls: the market is in an excess, in a shortfall or within its thresholds. Assumes nothing.
-use mathlib.Core.Path.{_≡_, refl, sym, ap, ap₂, _∙_}
+use mathlib.Core.Path.{_≡_, refl, sym, ap, ap₂, _∙_, subst}
 use mathlib.Core.Bool.{Bool, true, false, cond}
 use mathlib.Core.List.{List, [], _∷_, map, zipWith}
 use Prim.Native.Nat.{ℕ, zero, suc, _≤_}
@@ -7,34 +7,20 @@ use native.Mathlib.Omega.{arith}
 use native.Mathlib.Nat.{le-refl}
 use lib.IntN.{ℤ, pos, natAbs, zero-*ℤ, +ℤ-idr, _-ℤ_}
 use lib.ListN.{length, getD, replicate, length-map}
-use lib.Signed.{ltZ}
-use mir.Syntax.{w64}
-use mir.Val.{toZ, ofZ}
 use Rattle.integers.specs.Lists.{sumℤ, AtMost}
 use Rattle.integers.proofs.Sizes.{size-sub}
-use Rattle.integers.proofs.Machine.{fits, read}
 use Rattle.integers.proofs.Sums.{sum-bound, at-most-tail}
 use Rattle.rules.specs.declared.HourTerms.{HourTerms}
 use Rattle.rules.specs.declared.Marks.{Marks}
-use Rattle.rules.specs.declared.Side.the-variants.{Excess, Shortfall}
 use Rattle.rules.specs.declared.Outcome.{Outcome}
-use Rattle.rules.specs.declared.Outcome.the-variants.{Within, Settled}
-use Rattle.rules.specs.Market.{Imbalance, within, imbalanceOf, imbalance, total, caused, size, sizes, settledSizes, signed, quantities, after, moneyOf, moneys, outcome}
-use Rattle.rules.proofs.Settling.{gap, length-sizes, length-quantities, Shareable, share-excess, share-shortfall}
+use Rattle.rules.specs.declared.Outcome.the-variants.{Within}
+use Rattle.rules.specs.Market.{Imbalance, within, imbalance, total, caused, size, sizes, settledSizes, signed, quantities, after, moneyOf, moneys, outcome}
+use Rattle.rules.proofs.Settling.{View, is-excess, is-shortfall, view, length-sizes, length-quantities, Shareable, share-excess, share-shortfall}
 use Rattle.positions.specs.Before.{befores}
 use Rattle.positions.proofs.Before.{length-befores}
-use Rattle.rules.specs.Causes.{termsFit}
 use Rattle.rules.proofs.Accepted.{thresholds-sound}
 use Rattle.rules.proofs.Small.{positions-small, terms-small}
 use Rattle.settlement.specs.Steps.{side, SideAsks, SideLeaves, Asks, UsersLeave}
-
--- a threshold is read back from its bits
-module _ (k : HourTerms) (b : termsFit k ≡ true) where
-  pub upper-back : toZ w64 (ofZ w64 (k .upper)) ≡ k .upper
-  upper-back = read (fits (k .upper) (omega (arith, terms-small k b .upper)))
-
-  pub lower-back : toZ w64 (ofZ w64 (k .lower)) ≡ k .lower
-  lower-back = read (fits (k .lower) (omega (arith, terms-small k b .lower)))
 
 -- ---- an hour within its thresholds settles nothing
 nothing : (ns : List ℕ) → map (signed within) ns ≡ replicate (length ns) (pos 0)
@@ -71,7 +57,12 @@ sizes-small i [] s j = omega arith
 sizes-small i (p ∷ ps) s zero = omega (arith, size-le i p, s .at 0)
 sizes-small i (p ∷ ps) s (suc j) = sizes-small i ps (at-most-tail s) j
 
--- ---- by the market position of the positions before, z
+total-side : (up : Bool) (n : ℕ) → total (side up n) ≡ n
+unfolding total side
+total-side true n = refl
+total-side false n = refl
+
+-- ---- by the positions before, z
 module _ {p e x t i : List ℤ} {k : HourTerms} {q m : List ℤ} {s : List ℕ} (a : Asks p e x t i k q m s) (z : List ℤ) (ez : z ≡ befores p e x t i) where
   z-long : length z ≡ length e
   z-long = ap length ez ∙ length-befores p e x t i
@@ -82,20 +73,45 @@ module _ {p e x t i : List ℤ} {k : HourTerms} {q m : List ℤ} {s : List ℕ} 
   pub sum-asked : (length z ≤ 128) × AtMost 100_000_000 z
   sum-asked = (omega (arith, z-long, a .amounts .lent .few), z-small)
 
-  module _ (market : ℤ) (em : market ≡ sumℤ z) where
-    market-small : natAbs market ≤ 12_800_000_000
-    market-small = rw em (omega (arith, sum-bound z z-small, sum-asked .0))
+  pub market-small : natAbs (sumℤ z) ≤ 12_800_000_000
+  market-small = omega (arith, sum-bound z z-small, sum-asked .0)
 
-    pub market-back : toZ w64 (ofZ w64 market) ≡ market
-    market-back = read (fits market (omega (arith, market-small)))
+  -- a total is no larger than the market and its threshold together, and can be shared
+  record Total (up : Bool) (n : ℕ) : Type 0 where
+    size : n ≤ 25_600_000_000
+    shareable : Shareable (side up n) z
 
-    asked : (up : Bool) (n : ℕ) → total (side up n) ≡ n → Shareable (side up n) z → SideAsks up n z k q m s
-    asked up n en sh = record {
+  of-view : (up : Bool) (n : ℕ) → View (k .upper) (k .lower) (sumℤ z) (side up n) → Total up n
+  unfolding side
+  of-view true n (is-excess over is) =
+      let h = thresholds-sound k (a .terms) in
+      record {
+        size = omega (arith, ap natAbs is, size-sub (sumℤ z) (k .upper), terms-small k (a .terms) .upper, market-small);
+        shareable = share-excess (k .upper) (k .lower) z (h .0) (h .1) n over is;
+      }
+  of-view false n (is-shortfall under is) =
+      let h = thresholds-sound k (a .terms) in
+      record {
+        size = omega (arith, ap natAbs is, size-sub (k .lower) (sumℤ z), terms-small k (a .terms) .lower, market-small);
+        shareable = share-shortfall (k .upper) (k .lower) z (h .0) (h .1) n under is;
+      }
+
+  -- an excess or a shortfall
+  module _ (up : Bool) (n : ℕ) (is : side up n ≡ imbalance (k .upper) (k .lower) z) where
+    of-side : Total up n
+    unfolding imbalance
+    of-side = of-view up n (subst (View (k .upper) (k .lower) (sumℤ z)) (sym is) (view (k .upper) (k .lower) (sumℤ z)))
+
+    pub side-fits : n ≤ 25_600_000_000
+    side-fits = of-side .size
+
+    pub side-asked : SideAsks up n z k q m s
+    side-asked = record {
       input = record {
         users = omega (arith, length-sizes (side up n) z, sum-asked .0);
         small = sizes-small (side up n) z z-small;
-        some = sh .some;
-        within = omega (arith, sh .enough);
+        some = of-side .shareable .some;
+        within = omega (arith, of-side .shareable .enough, total-side up n);
       };
       positions = rw ez (a .positions);
       terms = a .terms;
@@ -104,78 +120,31 @@ module _ {p e x t i : List ℤ} {k : HourTerms} {q m : List ℤ} {s : List ℕ} 
       scratches = a .scratches ∙ sym z-long;
     }
 
-    left : (up : Bool) (n : ℕ) (z' q' m' : List ℤ) (s' : List ℕ) (r : Marks) → imbalance (k .upper) (k .lower) z ≡ side up n → SideLeaves up n z z' k q' m' s s' r
+    pub side-left : (z' q' m' : List ℤ) (s' : List ℕ) (r : Marks) → SideLeaves up n z z' k q' m' s s' r
         → (o : Outcome) → o ≡ outcome (side up n) z → UsersLeave p z' e x t i k q' m' s s' o
-    left up n z' q' m' s' r ei v o eo = record {
+    side-left z' q' m' s' r v o eo = record {
       lists = record {
-        quantity = rw (← ez, ei) (v .quantity);
-        money = rw (← ez, ei) (v .money);
+        quantity = rw (← ez, ← is) (v .quantity);
+        money = rw (← ez, ← is) (v .money);
         scratch = v .scratch;
-        answer = rw (← ez, ei) eo;
+        answer = rw (← ez, ← is) eo;
       };
-      places = rw (← ez, ei) (v .places);
+      places = rw (← ez, ← is) (v .places);
     }
 
-    -- an excess
-    module _ (h : ltZ (k .upper) market ≡ true) where
-      pub excess-gap : (ltZ (k .upper) market ≡ true) × (natAbs (k .upper) ≤ 12_800_000_000) × (natAbs market ≤ 12_800_000_000)
-      excess-gap = (h, omega (arith, terms-small k (a .terms) .upper), market-small)
-
-      module _ (n : ℕ) (en : n ≡ natAbs (market -ℤ k .upper)) where
-        pub excess-fits : n ≤ 25_600_000_000
-        excess-fits = omega (arith, size-sub market (k .upper), terms-small k (a .terms) .upper, market-small)
-
-        excess-is : imbalance (k .upper) (k .lower) z ≡ side true n
-        unfolding imbalance imbalanceOf side
-        excess-is = rw (← em, h, en)
-
-        pub excess-asked : SideAsks true n z k q m s
-        unfolding side total
-        excess-asked =
-            let d : pos n ≡ sumℤ z -ℤ k .upper = ap pos en ∙ gap (k .upper) market h ∙ ap (λ (y : ℤ). y -ℤ k .upper) em in
-            asked true n refl (share-excess (k .upper) (k .lower) z (thresholds-sound k (a .terms) .0) (thresholds-sound k (a .terms) .1) n (rw em at h) d)
-
-        pub excess-left : (z' q' m' : List ℤ) (s' : List ℕ) (r : Marks) → SideLeaves true n z z' k q' m' s s' r → UsersLeave p z' e x t i k q' m' s s' (Settled (Excess (pos n)) r)
-        unfolding side outcome
-        excess-left z' q' m' s' r v = left true n z' q' m' s' r excess-is v (Settled (Excess (pos n)) r) (ap (Settled (Excess (pos n))) (v .marked))
-
-    -- a shortfall
-    module _ (not-above : ltZ (k .upper) market ≡ false) (h : ltZ market (k .lower) ≡ true) where
-      pub shortfall-gap : (ltZ market (k .lower) ≡ true) × (natAbs market ≤ 12_800_000_000) × (natAbs (k .lower) ≤ 12_800_000_000)
-      shortfall-gap = (h, market-small, omega (arith, terms-small k (a .terms) .lower))
-
-      module _ (n : ℕ) (en : n ≡ natAbs (k .lower -ℤ market)) where
-        pub shortfall-fits : n ≤ 25_600_000_000
-        shortfall-fits = omega (arith, size-sub (k .lower) market, terms-small k (a .terms) .lower, market-small)
-
-        shortfall-is : imbalance (k .upper) (k .lower) z ≡ side false n
-        unfolding imbalance imbalanceOf side
-        shortfall-is = rw (← em, not-above, h, en)
-
-        pub shortfall-asked : SideAsks false n z k q m s
-        unfolding side total
-        shortfall-asked =
-            let d : pos n ≡ k .lower -ℤ sumℤ z = ap pos en ∙ gap market (k .lower) h ∙ ap (λ (y : ℤ). k .lower -ℤ y) em in
-            asked false n refl (share-shortfall (k .upper) (k .lower) z (thresholds-sound k (a .terms) .0) (thresholds-sound k (a .terms) .1) n (rw em at h) d)
-
-        pub shortfall-left : (z' q' m' : List ℤ) (s' : List ℕ) (r : Marks) → SideLeaves false n z z' k q' m' s s' r → UsersLeave p z' e x t i k q' m' s s' (Settled (Shortfall (pos n)) r)
-        unfolding side outcome
-        shortfall-left z' q' m' s' r v = left false n z' q' m' s' r shortfall-is v (Settled (Shortfall (pos n)) r) (ap (Settled (Shortfall (pos n))) (v .marked))
-
-    -- neither
-    pub within-left : ltZ (k .upper) market ≡ false → ltZ market (k .lower) ≡ false → (q' m' : List ℤ) (s' : List ℕ)
-        → q' ≡ replicate (length q) (pos 0) → m' ≡ replicate (length m) (pos 0) → s' ≡ replicate (length s) 0 → UsersLeave p z e x t i k q' m' s s' Within
-    unfolding outcome after imbalance imbalanceOf
-    within-left not-above not-below q' m' s' eq eμ es =
-        let w : imbalance (k .upper) (k .lower) z ≡ within = rw (← em, not-above, not-below) in
-        let lq : length q ≡ length z = a .quantities ∙ sym z-long in
-        let lm : length m ≡ length z = a .moneys ∙ sym z-long in
-        record {
-          lists = record {
-            quantity = rw (← ez, w, no-quantities z) (eq ∙ ap (λ (j : ℕ). replicate j (pos 0)) lq);
-            money = rw (← ez, w, no-quantities z) (eμ ∙ ap (λ (j : ℕ). replicate j (pos 0)) lm ∙ sym (no-moneys (k .«excess_price») (k .«shortfall_price») (length z)));
-            scratch = es;
-            answer = rw (← ez, w);
-          };
-          places = rw (← ez, w, no-quantities z) (sym (no-change z));
-        }
+  -- neither
+  pub within-left : within ≡ imbalance (k .upper) (k .lower) z → (q' m' : List ℤ) (s' : List ℕ)
+      → q' ≡ replicate (length q) (pos 0) → m' ≡ replicate (length m) (pos 0) → s' ≡ replicate (length s) 0 → UsersLeave p z e x t i k q' m' s s' Within
+  unfolding outcome after
+  within-left is q' m' s' eq eμ es =
+      let lq : length q ≡ length z = a .quantities ∙ sym z-long in
+      let lm : length m ≡ length z = a .moneys ∙ sym z-long in
+      record {
+        lists = record {
+          quantity = rw (← ez, ← is, no-quantities z) (eq ∙ ap (λ (j : ℕ). replicate j (pos 0)) lq);
+          money = rw (← ez, ← is, no-quantities z) (eμ ∙ ap (λ (j : ℕ). replicate j (pos 0)) lm ∙ sym (no-moneys (k .«excess_price») (k .«shortfall_price») (length z)));
+          scratch = es;
+          answer = rw (← ez, ← is);
+        };
+        places = rw (← ez, ← is, no-quantities z) (sym (no-change z));
+      }

@@ -5,12 +5,12 @@ ghost use mathlib.Core.List.{map};
 ghost use Prim.Native.Nat.{_≤_};
 ghost use lib.IntN.{natAbs, _-ℤ_};
 ghost use lib.ListN.{length};
-ghost use lib.Signed.{ltZ};
 ghost use Rattle.integers.specs.Lists.{bit, AtMost};
 ghost use Rattle.rules.specs.Causes.{termsFit};
 ghost use Rattle.rules.specs.Market.{caused, size, word, marks, causers};
 ghost use Rattle.positions.specs.Before.{befores, Amounts};
 ghost use Rattle.settlement.specs.Steps.{side, turn, priceOn, Booked, SideAsks, SideLeaves, Asks, UsersLeave, ZoneLeaves, TableAsks, TableLeaves};
+use positions::Imbalance;
 use rules::HourTerms;
 use rules::Marks;
 use rules::Outcome;
@@ -157,14 +157,6 @@ fn add_amounts(positions: &mut [i64], entry: &[i64], exit: &[i64], title: &[i64]
     }
 }
 
-// How far `high` is above `low`.
-fn gap(low: i64, high: i64) -> u64
-    requires { ⌜ (ltZ low high ≡ true) × (natAbs low ≤ 12_800_000_000) × (natAbs high ≤ 12_800_000_000) ⌝ }
-    ensures { λ r. ⌜ r ≡ natAbs (high -ℤ low) ⌝ }
-{
-    integers::magnitude(high - low)
-}
-
 // Rules 1 to 6 on places that hold the users' positions and nothing else.
 fn settle_users(
     positions: &mut [i64],
@@ -182,22 +174,23 @@ fn settle_users(
 {
     add_amounts(positions, entry, exit, title, pooling);
     let market = positions::sum_of(positions);
-    let upper = terms.upper;
-    let lower = terms.lower;
-    if market > upper {
-        let total = gap(upper, market);
-        let marked = settle_side(true, total, positions, terms, quantity, money, scratch);
-        return Outcome::Settled(Side::Excess(total as i64), marked);
+    let imbalance = positions::imbalance_of(terms, market);
+    match imbalance {
+        Imbalance::Excess(total) => {
+            let marked = settle_side(true, total, positions, terms, quantity, money, scratch);
+            Outcome::Settled(Side::Excess(total as i64), marked)
+        }
+        Imbalance::Shortfall(total) => {
+            let marked = settle_side(false, total, positions, terms, quantity, money, scratch);
+            Outcome::Settled(Side::Shortfall(total as i64), marked)
+        }
+        Imbalance::Within => {
+            integers::clear(quantity);
+            integers::clear(money);
+            integers::clear_unsigned(scratch);
+            Outcome::Within
+        }
     }
-    if market < lower {
-        let total = gap(market, lower);
-        let marked = settle_side(false, total, positions, terms, quantity, money, scratch);
-        return Outcome::Settled(Side::Shortfall(total as i64), marked);
-    }
-    integers::clear(quantity);
-    integers::clear(money);
-    integers::clear_unsigned(scratch);
-    Outcome::Within
 }
 
 // The users' places are the first of whatever part is lent.

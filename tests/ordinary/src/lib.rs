@@ -19,8 +19,11 @@ mod day;
 mod hour;
 pub mod limits;
 pub mod made_up;
+pub mod present;
 pub mod random;
 mod reader;
+pub mod spoilt;
+pub mod spoilt_file;
 mod thresholds;
 
 #[cfg(test)]

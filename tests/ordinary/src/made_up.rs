@@ -52,7 +52,7 @@ pub struct Hour {
 }
 
 /// How far entry, exit and title together can move a position.
-const REACH: i64 = 100_000_000;
+pub(crate) const REACH: i64 = 100_000_000;
 /// How large the pooling amounts are made up.
 const POOLED: i64 = 50_000_000;
 /// Sizes of positions to choose from.
@@ -147,6 +147,16 @@ pub fn odd_number(random: &mut Random) -> i64 {
     limit.saturating_add(random.between(-2, 2))
 }
 
+/// A number beyond the range, above it (1) or below it (-1): often the next one.
+pub fn odd_beyond(random: &mut Random, range: RangeInclusive<i64>, sign: i64) -> i64 {
+    let (low, high) = range.into_inner();
+    let (end, last) = if sign > 0 { (high, i64::MAX) } else { (low, i64::MIN) };
+    let any = random.between(end.min(last), end.max(last));
+    let next = end + sign;
+    let wrapped = end + sign * (1 << 32);
+    random.pick([next, next, end + 2 * sign, wrapped, last, if any == end { next } else { any }])
+}
+
 /// The hour's file, in the form that the reader takes.
 pub fn file(random: &mut Random, hour: i64, zone: i64, amounts: &Hour) -> Vec<u8> {
     let energies = amounts.entry.iter().zip(&amounts.exit);
@@ -221,7 +231,7 @@ fn insert(bytes: &mut Vec<u8>, at: usize, inserted: &[u8]) {
 }
 
 /// A number of at most nine digits, with any count of digits about equally often.
-fn any_number(random: &mut Random) -> i64 {
+pub(crate) fn any_number(random: &mut Random) -> i64 {
     let end = 10_i64.pow(random.below(10) as u32) - 1;
     random.between(-end, end)
 }
@@ -280,7 +290,7 @@ fn wishes(random: &mut Random, users: usize, kind: Kind) -> Vec<i64> {
 }
 
 /// Entry, exit and title amounts in range that add to the move, at most `REACH` in size.
-fn split(random: &mut Random, moved: i64) -> [i64; 3] {
+pub(crate) fn split(random: &mut Random, moved: i64) -> [i64; 3] {
     let title = between_ends(
         random,
         (moved - limits::ENTRY.end()).max(*limits::TITLE.start()),

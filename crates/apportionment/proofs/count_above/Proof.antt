@@ -7,7 +7,7 @@ use lib.ListN.{length, take, getD}
 use lib.Seq.{take-all}
 use Rattle.integers.specs.Lists.{bit, count}
 use Rattle.integers.proofs.Counts.{count-step}
-use Rattle.apportionment.specs.Steps.{above}
+use Rattle.largest_remainder.specs.Cuts.{above}
 use Rattle.apportionment.proofs.Handing.{top-bit, bit-ltb-le}
 use borrow.Author.Needs.{needs}
 use native.Mathlib.Omega.{arith}

@@ -1,8 +1,8 @@
 -- A cut of `spare` lies between lo and hi: enough remainders are above lo, and `over` of them, no more than enough, above hi. Assumes nothing.
 use Prim.Native.Nat.{suc, _+_, _-_, _≤_, _<_}
 use mathlib.Core.Path.{_≡_, sym}
-use Rattle.apportionment.specs.Steps.{above, same}
-use Rattle.apportionment.proofs.Cuts.{above-suc}
+use Rattle.largest_remainder.specs.Cuts.{above, same}
+use Rattle.largest_remainder.proofs.Cuts.{above-suc}
 use Rattle.apportionment.proofs.Handing.{cut-begins}
 use borrow.Author.Needs.{needs}
 use native.Mathlib.Omega.{arith}

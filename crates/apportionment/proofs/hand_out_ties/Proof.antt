@@ -9,7 +9,8 @@ use Rattle.integers.specs.Lists.{bit, count, sum, tabulate}
 use Rattle.integers.proofs.Counts.{bit-le, count-step}
 use Rattle.integers.proofs.Machine.{back, read-le}
 use Rattle.integers.proofs.Passes.{Written, written-none, written-elem, written-next, written-rest}
-use Rattle.apportionment.specs.Steps.{same, taken, raisedBy}
+use Rattle.largest_remainder.specs.Cuts.{same, taken}
+use Rattle.apportionment.specs.Steps.{raisedBy}
 use Rattle.apportionment.proofs.Handing.{taken-left, raised-length, raised-at, got, got-next, got-less, got-done}
 use borrow.Author.Needs.{needs}
 use native.Mathlib.Omega.{arith}

@@ -2,7 +2,7 @@
 use mathlib.Core.Path.{_≡_, _∙_}
 use lib.ListN.{length, getD}
 use Rattle.integers.proofs.Machine.{back}
-use Rattle.apportionment.specs.Rule.{whole}
+use Rattle.largest_remainder.specs.Rule.{whole}
 use Rattle.apportionment.proofs.Sharing.{Sharing, sharing-none, sharing-asks, sharing-whole, sharing-fraction, sharing-given, sharing-next, sharing-all}
 use Prim.Native.Nat.{ℕ, _*_, _+_, _-_, _/_, _≤_, _<_}
 use borrow.Author.Needs.{needs}

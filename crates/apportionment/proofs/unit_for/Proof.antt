@@ -1,6 +1,6 @@
 -- By cases on the three tests. Assumes nothing.
 use Rattle.integers.proofs.Counts.{bit-ltb, bit-eqb}
-use Rattle.apportionment.proofs.Cuts.{unit-bit}
+use Rattle.largest_remainder.proofs.Cuts.{unit-bit}
 use native.Mathlib.Omega.{arith}
 use Rattle.apportionment.proofs.unit_for.Statement.{statement}
 use Rattle.apportionment.proofs.unit_for.Tie as tie

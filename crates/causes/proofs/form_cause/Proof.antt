@@ -1,4 +1,5 @@
 -- The tests in turn. Assumes nothing.
+use Rattle.rules.specs.Causes.{zoneOpen}
 use Rattle.causes.specs.Steps.{formCause}
 use Rattle.integers.proofs.Machine.{read}
 use borrow.Author.Needs.{needs}
@@ -33,7 +34,7 @@ first-requires-3 : tie.Need-first-requires-3
 first-requires-3 c κs = search needs
 
 returns : tie.Need-returns
-unfolding formCause
+unfolding formCause zoneOpen
 returns c =
     simp
     (c .first3 .ensures, c .before .first2 .ensures, c .before .before .first .ensures, c .before .before .before .refusal4 .ensures, c .before .before .before .before .refusal3 .ensures, c .before .before .before .before .before .refusal2 .ensures, c .before .before .before .before .before .before .zone-fit .ensures, c .before .before .before .before .before .before .before .refusal .ensures, c .before .before .before .before .before .before .before .before .is-closed .ensures, read (c .before .before .before .before .before .before .before .before .before .fits .zone))

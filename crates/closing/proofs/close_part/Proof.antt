@@ -34,7 +34,9 @@ money-all-requires c κs =
     let s = start d in
     let k = s .args .terms in
     let b = prices-small _ _ (s .pre .prices) in
-    (read-le (k .«excess_price») 10_000_000 (b .excess), read-le (k .«shortfall_price») 10_000_000 (b .shortfall), money-asked (s .pre) _ (count d) _ (d .copy-all .ensures), quantity-asked (s .pre) _ (count d) _ (d .copy-all .ensures) .1)
+    let e = read-le (k .«excess_price») 10_000_000 (b .excess) in
+    let f = read-le (k .«shortfall_price») 10_000_000 (b .shortfall) in
+    (omega (arith, e, f), omega (arith, e, f), money-asked (s .pre) _ (count d) _ (d .copy-all .ensures), quantity-asked (s .pre) _ (count d) _ (d .copy-all .ensures) .1)
 
 traded-all-requires : tie.Need-traded-all-requires
 traded-all-requires c κs = let d = c .before .before .before .before .before .before .before .before in quantity-asked (start d .pre) _ (count d) _ (d .copy-all .ensures)

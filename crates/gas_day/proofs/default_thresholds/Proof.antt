@@ -1,5 +1,5 @@
 -- By the cause. Assumes nothing.
-use mathlib.Core.Path.{_≡_}
+use mathlib.Core.Path.{_≡_, _∙_}
 use Rattle.integers.proofs.Machine.{read, back}
 use Rattle.rules.specs.Thresholds.{upperDefault, lowerDefault}
 use Rattle.rules.specs.Causes.{thresholdsCause}
@@ -30,8 +30,9 @@ negated-requires c κs = rw (back _ (c .upper-default .ok), upper c) (rw (upper 
 returns-2 : tie.Need-returns-2
 unfolding lowerDefault
 returns-2 c =
-    rw (back (c .before .upper-default .result) (c .before .upper-default .ok), back (c .negated .result) (c .negated .ok))
-    (defaults _ _ _ (cause (c .before .before .before)) (c .before .before .if1 .left) _ _ (upper (c .before)) (rw (back _ (c .before .upper-default .ok), upper (c .before)) at (c .negated .ensures)))
+    defaults _ _ _ (cause (c .before .before .before)) (c .before .before .if1 .left) _ _
+    (back _ (c .before .upper-default .ok) ∙ upper (c .before))
+    (back _ (c .negated .ok) ∙ rw (back _ (c .before .upper-default .ok), upper (c .before)) at (c .negated .ensures))
 
 pub default-thresholds-spec : {M : Type 1} → statement M
 default-thresholds-spec =

@@ -1,71 +1,59 @@
--- By the market position, in the three cases of rule 2 (proofs/Users.antt). Assumes nothing.
-use mathlib.Core.Path.{_≡_}
-use mathlib.Core.Bool.{Bool, true, false}
-use lib.IntN.{pos, natAbs, _-ℤ_}
-use lib.Signed.{ltZ}
-use mir.Syntax.{w64}
-use mir.Val.{toZ, ofZ}
-use Rattle.integers.proofs.Machine.{read, fits}
+-- By the three cases of rule 2 (proofs/Users.antt). Assumes nothing.
+use mathlib.Core.Path.{_≡_, sym, ap, _∙_}
+use mathlib.Core.Bool.{true, false}
+use mathlib.Core.List.{List}
+use lib.IntN.{ℤ, pos}
+use Rattle.integers.proofs.Machine.{read, back, fits, read-le}
+use Rattle.rules.specs.declared.Side.the-variants.{Excess, Shortfall}
+use Rattle.rules.specs.declared.Outcome.the-variants.{Settled}
+use Rattle.rules.specs.Market.{imbalance, outcome}
+use Rattle.positions.specs.Against.{found}
 use Rattle.positions.specs.Before.{befores}
-use Rattle.settlement.proofs.Users.{upper-back, lower-back, sum-asked, market-back, excess-gap, excess-fits, excess-asked, excess-left, shortfall-gap, shortfall-fits, shortfall-asked, shortfall-left, within-left}
+use Rattle.settlement.specs.Steps.{side}
+use Rattle.settlement.proofs.Users.{sum-asked, market-small, side-fits, side-asked, side-left, within-left}
 use borrow.Author.Needs.{needs}
 use native.Mathlib.Omega.{arith}
 use Rattle.settlement.proofs.settle_users.Statement.{statement}
 use Rattle.settlement.proofs.settle_users.Tie as tie
 
--- once the market position is known: the function's entry, the positions before, and the numbers as the machine reads them
-abbrev start : tie.After-sum-of → tie.Start
-start c = c .before .before .before .before .before .before
+-- once the imbalance is known: the function's entry, the positions before, and what was found
+abbrev start : tie.After-imbalance-of → tie.Start
+start c = c .before .before .before .before .before .before .before
 
-added : (c : tie.After-sum-of) → c .before .before .before .add-amounts .last .0 ≡ befores (start c .args .positions .now) (start c .args .entry .now) (start c .args .exit .now) (start c .args .title .now) (start c .args .pooling .now)
-added c = c .before .before .before .add-amounts .ensures
+abbrev before : tie.After-imbalance-of → List ℤ
+before c = c .before .before .before .before .add-amounts .last .0
 
-market : (c : tie.After-sum-of) → toZ w64 (ofZ w64 (c .sum-of .result)) ≡ c .sum-of .result
-market c = market-back (start c .pre .1) _ (added c) _ (c .sum-of .ensures)
+added : (c : tie.After-imbalance-of) → before c ≡ befores (start c .args .positions .now) (start c .args .entry .now) (start c .args .exit .now) (start c .args .title .now) (start c .args .pooling .now)
+added c = c .before .before .before .before .add-amounts .ensures
 
-upper : (c : tie.After-sum-of) → toZ w64 (ofZ w64 (start c .args .terms .upper)) ≡ start c .args .terms .upper
-upper c = upper-back _ (start c .pre .1 .terms)
+against : (c : tie.After-imbalance-of) → found (c .imbalance-of .result) ≡ imbalance (start c .args .terms .upper) (start c .args .terms .lower) (before c)
+unfolding imbalance
+against c = rw (back (c .before .sum-of .result) (c .before .sum-of .ok), c .before .sum-of .ensures) at (c .imbalance-of .ensures)
 
-lower : (c : tie.After-sum-of) → toZ w64 (ofZ w64 (start c .args .terms .lower)) ≡ start c .args .terms .lower
-lower c = lower-back _ (start c .pre .1 .terms)
+-- ---- in an excess: where its total is known, and at the end
+abbrev over : tie.After-imbalance → tie.After-imbalance-of
+over d = d .before .before
 
-above : (c : tie.After-sum-of) {b : Bool} → ltZ (toZ w64 (ofZ w64 (start c .args .terms .upper))) (toZ w64 (ofZ w64 (c .sum-of .result))) ≡ b → ltZ (start c .args .terms .upper) (c .sum-of .result) ≡ b
-above c e = rw (market c, upper c) at e
+is-excess : (d : tie.After-imbalance) → side true (d .imbalance .given .0 .0) ≡ imbalance (start (over d) .args .terms .upper) (start (over d) .args .terms .lower) (before (over d))
+unfolding side
+is-excess d = sym (ap found (d .imbalance .given .1)) ∙ against (over d)
 
-below : (c : tie.After-sum-of) {b : Bool} → ltZ (toZ w64 (ofZ w64 (c .sum-of .result))) (toZ w64 (ofZ w64 (start c .args .terms .lower))) ≡ b → ltZ (c .sum-of .result) (start c .args .terms .lower) ≡ b
-below c e = rw (market c, lower c) at e
-
--- ---- in an excess: once its total is known, and at the end
-abbrev summed : tie.After-gap → tie.After-sum-of
-summed g = g .before .before .before .before
-
-over : (g : tie.After-gap) → ltZ (start (summed g) .args .terms .upper) (summed g .sum-of .result) ≡ true
-over g = above (summed g) (g .before .if1 .taken)
-
-excess-is : (g : tie.After-gap) → g .gap .result ≡ natAbs (summed g .sum-of .result -ℤ start (summed g) .args .terms .upper)
-excess-is g = rw (market (summed g), upper (summed g)) at (g .gap .ensures)
-
-abbrev excess : tie.After-slice-known2 → tie.After-gap
-excess c = c .before .before .before .before .before .before .before .before .before .before
+abbrev excess : tie.After-slice-known2 → tie.After-imbalance
+excess c = c .before .before .before .before .before .before .before .before .before .before .before
 
 -- ---- in a shortfall
-abbrev summed2 : tie.After-gap2 → tie.After-sum-of
-summed2 g = g .before .before .before .before .before
+abbrev under : tie.After-imbalance2 → tie.After-imbalance-of
+under d = d .before .before
 
-not-over : (g : tie.After-gap2) → ltZ (start (summed2 g) .args .terms .upper) (summed2 g .sum-of .result) ≡ false
-not-over g = above (summed2 g) (g .before .before .if1 .left)
+is-shortfall : (d : tie.After-imbalance2) → side false (d .imbalance2 .given .0 .0) ≡ imbalance (start (under d) .args .terms .upper) (start (under d) .args .terms .lower) (before (under d))
+unfolding side
+is-shortfall d = sym (ap found (d .imbalance2 .given .1)) ∙ against (under d)
 
-under : (g : tie.After-gap2) → ltZ (summed2 g .sum-of .result) (start (summed2 g) .args .terms .lower) ≡ true
-under g = below (summed2 g) (g .before .if2 .taken)
-
-shortfall-is : (g : tie.After-gap2) → g .gap2 .result ≡ natAbs (start (summed2 g) .args .terms .lower -ℤ summed2 g .sum-of .result)
-shortfall-is g = rw (market (summed2 g), lower (summed2 g)) at (g .gap2 .ensures)
-
-abbrev shortfall : tie.After-slice-known3 → tie.After-gap2
-shortfall c = c .before .before .before .before .before .before .before .before .before .before
+abbrev shortfall : tie.After-slice-known3 → tie.After-imbalance2
+shortfall c = c .before .before .before .before .before .before .before .before .before .before .before
 
 -- ---- within the thresholds
-abbrev within : tie.After-slice-known4 → tie.Else2
+abbrev within : tie.After-slice-known4 → tie.After-enum-told
 within c = c .before .before .before .before .before .before .before .before .before .before
 
 add-amounts-requires : tie.Need-add-amounts-requires
@@ -74,20 +62,48 @@ add-amounts-requires c κs = search needs
 sum-of-requires : tie.Need-sum-of-requires
 sum-of-requires c κs = let s = c .before .before .before .before .before in sum-asked (s .pre .1) _ (c .before .before .add-amounts .ensures)
 
-gap-requires : tie.Need-gap-requires
-gap-requires c κs = let d = c .before .before .before in rw (market d, upper d) (excess-gap (start d .pre .1) _ (added d) _ (d .sum-of .ensures) (above d (c .if1 .taken)))
+imbalance-of-requires : tie.Need-imbalance-of-requires
+imbalance-of-requires c κs =
+    let s = c .before .before .before .before .before .before in
+    (s .pre .1 .terms, read-le (c .sum-of .result) 12_800_000_000 (rw (c .sum-of .ensures) (market-small (s .pre .1) _ (c .before .before .before .add-amounts .ensures))))
+
+enum-known-imbalance : tie.Need-enum-known-imbalance
+enum-known-imbalance c = search needs
 
 settle-side-requires : tie.Need-settle-side-requires
 settle-side-requires c κs =
-    let g = c .before .before .before .before in
-    let d = summed g in
-    excess-asked (start d .pre .1) _ (added d) _ (d .sum-of .ensures) (over g) _ (excess-is g)
+    let d = c .before .before .before .before .before in
+    side-asked (start (over d) .pre .1) _ (added (over d)) true _ (is-excess d)
 
-cast-t31 : tie.Need-cast-t31
-cast-t31 c =
-    let g = excess c in
-    let d = summed g in
-    fits (pos (g .gap .result)) (omega (arith, excess-fits (start d .pre .1) _ (added d) _ (d .sum-of .ensures) (over g) _ (excess-is g)))
+cast-t30 : tie.Need-cast-t30
+cast-t30 c =
+    let d = excess c in
+    fits (pos (d .imbalance .given .0 .0)) (omega (arith, side-fits (start (over d) .pre .1) _ (added (over d)) true _ (is-excess d)))
+
+enum-known-imbalance-2 : tie.Need-enum-known-imbalance-2
+enum-known-imbalance-2 c = search needs
+
+settle-side-requires-2 : tie.Need-settle-side-requires-2
+settle-side-requires-2 c κs =
+    let d = c .before .before .before .before .before in
+    side-asked (start (under d) .pre .1) _ (added (under d)) false _ (is-shortfall d)
+
+cast-t40 : tie.Need-cast-t40
+cast-t40 c =
+    let d = shortfall c in
+    fits (pos (d .imbalance2 .given .0 .0)) (omega (arith, side-fits (start (under d) .pre .1) _ (added (under d)) false _ (is-shortfall d)))
+
+enum-told : tie.Need-enum-told
+enum-told c = search needs
+
+clear-requires : tie.Need-clear-requires
+clear-requires c κs = search needs
+
+clear-requires-2 : tie.Need-clear-requires-2
+clear-requires-2 c κs = search needs
+
+clear-unsigned-requires : tie.Need-clear-unsigned-requires
+clear-unsigned-requires c κs = search needs
 
 same-length : tie.Need-same-length
 same-length c = search needs
@@ -102,26 +118,12 @@ same-length-4 : tie.Need-same-length-4
 same-length-4 c = search needs
 
 returns : tie.Need-returns
+unfolding side outcome
 returns c =
-    let g = excess c in
-    let d = summed g in
-    rw (read (cast-t31 c))
-    (excess-left (start d .pre .1) _ (added d) _ (d .sum-of .ensures) (over g) _ (excess-is g) _ _ _ _ _ (c .before .before .before .before .before .settle-side .ensures))
-
-gap-requires-2 : tie.Need-gap-requires-2
-gap-requires-2 c κs = let d = c .before .before .before .before in rw (market d, lower d) (shortfall-gap (start d .pre .1) _ (added d) _ (d .sum-of .ensures) (above d (c .before .if1 .left)) (below d (c .if2 .taken)))
-
-settle-side-requires-2 : tie.Need-settle-side-requires-2
-settle-side-requires-2 c κs =
-    let g = c .before .before .before .before in
-    let d = summed2 g in
-    shortfall-asked (start d .pre .1) _ (added d) _ (d .sum-of .ensures) (not-over g) (under g) _ (shortfall-is g)
-
-cast-t41 : tie.Need-cast-t41
-cast-t41 c =
-    let g = shortfall c in
-    let d = summed2 g in
-    fits (pos (g .gap2 .result)) (omega (arith, shortfall-fits (start d .pre .1) _ (added d) _ (d .sum-of .ensures) (not-over g) (under g) _ (shortfall-is g)))
+    let d = excess c in
+    let v = c .before .before .before .before .before .settle-side .ensures in
+    rw (read (cast-t30 c))
+    (side-left (start (over d) .pre .1) _ (added (over d)) true _ (is-excess d) _ _ _ _ _ v _ (ap (Settled (Excess (pos (d .imbalance .given .0 .0)))) (v .marked)))
 
 same-length-5 : tie.Need-same-length-5
 same-length-5 c = search needs
@@ -136,20 +138,12 @@ same-length-8 : tie.Need-same-length-8
 same-length-8 c = search needs
 
 returns-2 : tie.Need-returns-2
+unfolding side outcome
 returns-2 c =
-    let g = shortfall c in
-    let d = summed2 g in
-    rw (read (cast-t41 c))
-    (shortfall-left (start d .pre .1) _ (added d) _ (d .sum-of .ensures) (not-over g) (under g) _ (shortfall-is g) _ _ _ _ _ (c .before .before .before .before .before .settle-side2 .ensures))
-
-clear-requires : tie.Need-clear-requires
-clear-requires c κs = search needs
-
-clear-requires-2 : tie.Need-clear-requires-2
-clear-requires-2 c κs = search needs
-
-clear-unsigned-requires : tie.Need-clear-unsigned-requires
-clear-unsigned-requires c κs = search needs
+    let d = shortfall c in
+    let v = c .before .before .before .before .before .settle-side2 .ensures in
+    rw (read (cast-t40 c))
+    (side-left (start (under d) .pre .1) _ (added (under d)) false _ (is-shortfall d) _ _ _ _ _ v _ (ap (Settled (Shortfall (pos (d .imbalance2 .given .0 .0)))) (v .marked)))
 
 same-length-9 : tie.Need-same-length-9
 same-length-9 c = search needs
@@ -165,9 +159,9 @@ same-length-12 c = search needs
 
 returns-3 : tie.Need-returns-3
 returns-3 c =
-    let w = within c in
-    let d = w .before .before .before .before in
-    within-left (start d .pre .1) _ (added d) _ (d .sum-of .ensures) (above d (w .before .if1 .left)) (below d (w .if2 .left))
+    let d = within c in
+    let i = d .before .before in
+    within-left (start i .pre .1) _ (added i) (sym (ap found (d .enum-told .given .1)) ∙ against i)
     _ _ _ (c .before .before .before .before .before .before .before .before .clear .ensures) (c .before .before .before .before .before .clear2 .ensures) (c .before .before .clear-unsigned .ensures)
 
 pub settle-users-spec : {M : Type 1} → statement M
@@ -176,25 +170,27 @@ settle-users-spec =
     (tie.spec
     add-amounts-requires
     sum-of-requires
-    gap-requires
+    imbalance-of-requires
+    enum-known-imbalance
     settle-side-requires
-    cast-t31
+    cast-t30
+    enum-known-imbalance-2
+    settle-side-requires-2
+    cast-t40
+    enum-told
+    clear-requires
+    clear-requires-2
+    clear-unsigned-requires
     same-length
     same-length-2
     same-length-3
     same-length-4
     returns
-    gap-requires-2
-    settle-side-requires-2
-    cast-t41
     same-length-5
     same-length-6
     same-length-7
     same-length-8
     returns-2
-    clear-requires
-    clear-requires-2
-    clear-unsigned-requires
     same-length-9
     same-length-10
     same-length-11

@@ -1,0 +1,130 @@
+// The certificate: every promise to the user that is a theorem of the definitions, each as the contract of a function that does nothing. The gate proves every function, so it asks for
+// every theorem: where a proof is missing, its function here is not proved.
+//
+// That the calls do what the definitions say is each call's own contract, an equation for the answer and for every lent area, refused or accepted: `open`, `default_thresholds`,
+// `settle_hour` and `close_zone` in the crate `gas_day`, `read_hour_file` in `allocation_file`. A theorem below holds of the calls because it holds of those definitions.
+//
+// Words in quotation marks are the papers': of the demands, or of document 01 where a line says so.
+ghost use Rattle.largest_remainder.specs.Guarantees.{AddsUp, Accurate, NoMoreThanSize};
+ghost use Rattle.rules.specs.Guarantees.{BeginsAtZero, AcceptedIfFit, Conservation, ClosedIsZero, ClosedIsMarked, Accuracy, OutcomeByThresholds, MarksAreCausers};
+ghost use Rattle.file_guarantees.specs.Guarantees.{ReadIfObeyed, FirstFaultDecides, AcceptedObeys, CauseGiven, SmallNumbers};
+ghost use Rattle.file_guarantees.specs.Examples.{ExamplesComputed, CaseA};
+ghost use Rattle.cases.specs.Cases.{AllFigures};
+ghost use Rattle.cases.specs.WholeDay.{WholeDay, Defaults};
+
+// ---- the initial state
+
+// "The Gas Day shall be shown to begin at zero, not supposed to."
+pub fn the_gas_day_begins_at_zero()
+    ensures { λ _. ⌜ BeginsAtZero ⌝ }
+{}
+
+// ---- demand 2: what is accepted, and what is refused
+
+// "an hour or closing is accepted if and only if no listed cause exists"
+pub fn hours_and_closings_are_accepted_if_fit()
+    ensures { λ _. ⌜ AcceptedIfFit ⌝ }
+{}
+
+// "a file lent with lists of the right length is read if and only if it obeys the file rules"
+pub fn files_are_read_if_they_obey()
+    ensures { λ _. ⌜ ReadIfObeyed ⌝ }
+{}
+
+// Document 01: "For 14 to 16 the lines are taken in turn; within one line 14, then 15, then 16."
+pub fn the_first_fault_decides()
+    ensures { λ _. ⌜ FirstFaultDecides ⌝ }
+{}
+
+// Document 01: "It answers h, z as the zone's number, and the number of lines."
+pub fn an_accepted_file_obeys()
+    ensures { λ _. ⌜ AcceptedObeys ⌝ }
+{}
+
+// Document 01: "the reader 12 to 17"
+pub fn a_refused_file_has_a_cause()
+    ensures { λ _. ⌜ CauseGiven ⌝ }
+{}
+
+// Document 01: "A number has 1 to 9 digits"; "z is the letter H or L"
+pub fn the_numbers_of_a_line_are_small()
+    ensures { λ _. ⌜ SmallNumbers ⌝ }
+{}
+
+// ---- demand 3: every list of hours and closings
+
+// "no kilowatt-hour has appeared or vanished at the list's end: for each zone and user, all amounts of the hours accepted equal all quantities answered by accepted hours and closings,
+// plus the position standing in the table"
+pub fn no_kilowatt_hour_appears_or_vanishes()
+    ensures { λ _. ⌜ Conservation ⌝ }
+{}
+
+// "a zone whose closing was accepted holds zero in every place"
+pub fn a_closed_zone_holds_zero()
+    ensures { λ _. ⌜ ClosedIsZero ⌝ }
+{}
+
+// Document 01: opening answers a record with "no zone closed", and at a closing "the zone is marked closed". No other call marks a zone.
+pub fn a_closed_zone_is_marked_and_no_other()
+    ensures { λ _. ⌜ ClosedIsMarked ⌝ }
+{}
+
+// "Whatever record and table an hour is given, once it is accepted the market after it is neither above the upper nor below the lower of that hour's thresholds, a user who did not cause
+// has quantity 0, and each who did is settled by rules 4 and 5 of document 01, with a settled size less than 1 kWh from the exact share."
+pub fn an_accepted_hour_is_accurate()
+    ensures { λ _. ⌜ Accuracy ⌝ }
+{}
+
+// ---- the rules of an hour, in document 01's words
+
+// Rule 2: "Above the upper threshold there is an excess: the difference. Below the lower one there is a shortfall: the difference, taken positive. At a threshold there is neither."
+pub fn the_outcome_goes_by_the_thresholds()
+    ensures { λ _. ⌜ OutcomeByThresholds ⌝ }
+{}
+
+// Rule 3: "In an excess the causing users are those with a position above zero; in a shortfall, those below zero." These are marked, "and the number of marks is answered".
+pub fn the_marks_are_the_causers()
+    ensures { λ _. ⌜ MarksAreCausers ⌝ }
+{}
+
+// Rule 4: "Each gets the share rounded down. The kWh then left over go one each to the causers with the largest fractions": so all is shared, and no more.
+pub fn settled_sizes_add_to_the_total()
+    ensures { λ _. ⌜ AddsUp ⌝ }
+{}
+
+// Rule 4: "a settled size is less than 1 kWh from it when that size times the sum differs from the product by less than the sum"
+pub fn a_settled_size_is_near_the_exact_share()
+    ensures { λ _. ⌜ Accurate ⌝ }
+{}
+
+// Rule 5, of the position after: "It may reach zero and never crosses it."
+pub fn nobody_is_settled_for_more_than_its_size()
+    ensures { λ _. ⌜ NoMoreThanSize ⌝ }
+{}
+
+// ---- figures
+
+// Document 01: "Cases A to K, A by its reading and its settled numbers, stand as one list with a single proof over the definitions"
+pub fn cases_a_to_k_hold()
+    ensures { λ _. ⌜ AllFigures ⌝ }
+{}
+
+// A day of 24 hours with refused calls in it, and its closing: what the theorems on lists speak of is there.
+pub fn a_whole_day_can_be_run()
+    ensures { λ _. ⌜ WholeDay ⌝ }
+{}
+
+// Document 01: "January to December, upper threshold; the lower one is its negation."
+pub fn lower_defaults_are_negated()
+    ensures { λ _. ⌜ Defaults ⌝ }
+{}
+
+// Case A's file, and the lists as the reader leaves them.
+pub fn case_a_is_read()
+    ensures { λ _. ⌜ CaseA ⌝ }
+{}
+
+// Small files of every kind, read or refused as document 01 and its readings in docs/DECISIONS.md say.
+pub fn small_files_are_read_as_decided()
+    ensures { λ _. ⌜ ExamplesComputed ⌝ }
+{}

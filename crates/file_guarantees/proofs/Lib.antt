@@ -1,0 +1,6 @@
+-- Why the definitions of the file have the properties of specs/Guarantees.antt; and the examples, computed.
+mod Rows
+mod Obeyed
+mod Faults
+pub mod Guarantees
+pub mod Examples

@@ -1,0 +1,235 @@
+//! One call by both: the same is given and lent to each; the answer, the record and everything lent are compared afterwards, and a refused call also with what was
+//! lent. A difference ends the run with where it came up and what was given. Every call is counted, by its cause and, if it is an accepted hour, by its side.
+
+use crate::counts::Counts;
+use library::{ClosingTerms, Day, HourTerms, ZoneDay};
+use ordinary::spoilt::Call;
+use ordinary::{Outcome, Side, Terms};
+
+/// Where the comparison is, for the words of a difference, and what it has counted.
+pub struct Run {
+    pub at: String,
+    pub counts: Counts,
+}
+
+fn as_library(day: ordinary::Day) -> Day {
+    let zone = |z: usize| ZoneDay {
+        hours: day.hours[z],
+        closed: day.closed[z],
+    };
+    Day {
+        users: day.users,
+        h: zone(0),
+        l: zone(1),
+    }
+}
+
+fn as_ordinary(day: Day) -> ordinary::Day {
+    ordinary::Day {
+        users: day.users,
+        hours: [day.h.hours, day.l.hours],
+        closed: [day.h.closed, day.l.closed],
+    }
+}
+
+/// The record that a refused opening answers: "the other values are 0".
+const NO_DAY: ordinary::Day = ordinary::Day {
+    users: 0,
+    hours: [0; 2],
+    closed: [false; 2],
+};
+
+/// Of an hour: cause, side (0 within, 1 excess, 2 shortfall), total, the two words of marks, and their number.
+type HourAnswer = (u64, u64, i64, u64, u64, u64);
+
+fn ordinary_hour(call: &mut Call) -> HourAnswer {
+    let answer = ordinary::settle_hour(
+        call.day,
+        &mut call.table,
+        call.zone,
+        call.hour,
+        &call.amounts.entry,
+        &call.amounts.exit,
+        &call.amounts.title,
+        &call.amounts.pooling,
+        call.amounts.terms,
+        &mut call.quantity,
+        &mut call.money,
+        &mut call.scratch,
+    );
+    let (day, outcome) = match answer {
+        Err(cause) => return (cause, 0, 0, 0, 0, 0),
+        Ok(accepted) => accepted,
+    };
+    call.day = day;
+    match outcome {
+        Outcome::Within => (0, 0, 0, 0, 0, 0),
+        Outcome::Settled {
+            side,
+            total,
+            marks,
+            number,
+        } => {
+            let side = if side == Side::Excess { 1 } else { 2 };
+            (0, side, total, marks[0], marks[1], number)
+        }
+    }
+}
+
+fn library_hour(call: &mut Call) -> HourAnswer {
+    let Terms {
+        upper,
+        lower,
+        excess_price,
+        shortfall_price,
+    } = call.amounts.terms;
+    let terms = HourTerms {
+        zone: call.zone,
+        hour: call.hour,
+        upper,
+        lower,
+        excess_price,
+        shortfall_price,
+    };
+    let answer = library::settle_hour(
+        as_library(call.day),
+        &mut call.table,
+        terms,
+        &call.amounts.entry,
+        &call.amounts.exit,
+        &call.amounts.title,
+        &call.amounts.pooling,
+        &mut call.quantity,
+        &mut call.money,
+        &mut call.scratch,
+    );
+    call.day = as_ordinary(answer.day);
+    (
+        answer.cause,
+        answer.side,
+        answer.total,
+        answer.first,
+        answer.second,
+        answer.number,
+    )
+}
+
+/// Of a closing: cause, sold and bought.
+type ClosingAnswer = (u64, i64, i64);
+
+fn ordinary_closing(call: &mut Call) -> ClosingAnswer {
+    let answer = ordinary::close_zone(
+        call.day,
+        &mut call.table,
+        call.zone,
+        call.amounts.terms.excess_price,
+        call.amounts.terms.shortfall_price,
+        &mut call.quantity,
+        &mut call.money,
+    );
+    match answer {
+        Err(cause) => (cause, 0, 0),
+        Ok((day, sold, bought)) => {
+            call.day = day;
+            (0, sold, bought)
+        }
+    }
+}
+
+fn library_closing(call: &mut Call) -> ClosingAnswer {
+    let terms = ClosingTerms {
+        zone: call.zone,
+        excess_price: call.amounts.terms.excess_price,
+        shortfall_price: call.amounts.terms.shortfall_price,
+    };
+    let answer = library::close_zone(
+        as_library(call.day),
+        &mut call.table,
+        terms,
+        &mut call.quantity,
+        &mut call.money,
+    );
+    call.day = as_ordinary(answer.day);
+    (answer.cause, answer.sold, answer.bought)
+}
+
+impl Run {
+    /// An hour, from the same state; the call is left as the library left it. Answers the cause.
+    pub fn hour(&mut self, call: &mut Call) -> u64 {
+        let before = call.clone();
+        let mut other = call.clone();
+        let expected = ordinary_hour(&mut other);
+        let found = library_hour(call);
+        self.same("an hour", &before, (found, call), (expected, &other), expected.0);
+        self.counts.call("hours by cause", expected.0);
+        if expected.0 == 0 {
+            self.counts.count("accepted hours by side", ["within", "excess", "shortfall"][expected.1 as usize]);
+        }
+        expected.0
+    }
+
+    /// The same for a closing.
+    pub fn closing(&mut self, call: &mut Call) -> u64 {
+        let before = call.clone();
+        let mut other = call.clone();
+        let expected = ordinary_closing(&mut other);
+        let found = library_closing(call);
+        self.same("a closing", &before, (found, call), (expected, &other), expected.0);
+        self.counts.call("closings by cause", expected.0);
+        expected.0
+    }
+
+    fn same<A: PartialEq + std::fmt::Debug>(&self, what: &str, before: &Call, found: (A, &mut Call), expected: (A, &Call), cause: u64) {
+        if (&found.0, &*found.1) != (&expected.0, expected.1) {
+            panic!("{}: {what} differs\ngiven {before:?}\nthe library: {found:?}\nthe ordinary one: {expected:?}", self.at);
+        }
+        if cause != 0 && *found.1 != *before {
+            panic!("{}: {what} that was refused changed something\ngiven {before:?}", self.at);
+        }
+    }
+
+    /// An opening with a table of so many places. Answers the record and the table, or the cause.
+    pub fn opening(&mut self, users: i64, places: usize) -> Result<(ordinary::Day, Vec<i64>), u64> {
+        let before: Vec<i64> = (0..places as i64).map(|place| place - 7).collect();
+        let (mut table, mut other) = (before.clone(), before.clone());
+        let answer = ordinary::open(users, &mut other);
+        let expected = (answer.err().unwrap_or(0), answer.unwrap_or(NO_DAY));
+        let opened = library::open(users, &mut table);
+        let found = (opened.cause, as_ordinary(opened.day));
+        assert_eq!((found, &table), (expected, &other), "{}: an opening for {users} users differs", self.at);
+        assert!(found.0 == 0 || table == before, "{}: a refused opening changed the table", self.at);
+        self.counts.call("openings by cause", found.0);
+        answer.map(|day| (day, table))
+    }
+
+    /// Default thresholds. Answers the cause.
+    pub fn thresholds(&mut self, month: i64, zone: i64) -> u64 {
+        let answer = ordinary::default_thresholds(month, zone);
+        let (upper, lower) = answer.unwrap_or((0, 0));
+        let expected = (answer.err().unwrap_or(0), upper, lower);
+        let defaults = library::default_thresholds(month, zone);
+        let found = (defaults.cause, defaults.upper, defaults.lower);
+        assert_eq!(found, expected, "{}: the default thresholds of month {month}, zone {zone} differ", self.at);
+        self.counts.call("thresholds by cause", found.0);
+        found.0
+    }
+
+    /// A file, read into lists of these lengths. Answers the cause.
+    pub fn file(&mut self, bytes: &[u8], lengths: [usize; 4]) -> u64 {
+        let before = lengths.map(|length| vec![-7_i64; length]);
+        let (mut lists, mut others) = (before.clone(), before.clone());
+        let [a, b, c, d] = &mut others;
+        let answer = ordinary::read_file(bytes, a, b, c, d);
+        let (hour, zone, lines) = answer.unwrap_or((0, 0, 0));
+        let expected = (answer.err().unwrap_or(0), hour, zone, lines);
+        let [a, b, c, d] = &mut lists;
+        let read = library::read_hour_file(bytes, a, b, c, d);
+        let found = (read.cause, read.hour, read.zone, read.lines);
+        if (found, &lists) != (expected, &others) || (found.0 != 0 && lists != before) {
+            let shown = String::from_utf8_lossy(&bytes[..bytes.len().min(400)]);
+            panic!("{}: a file differs\n{shown:?}\nlengths {lengths:?}\nthe library: {found:?}\nthe ordinary one: {expected:?}", self.at);
+        }
+        self.counts.call("files by cause", found.0);
+        found.0
+    }
+}

@@ -1,0 +1,116 @@
+//! The causes that apply to a call, each looked at by itself, whichever others apply: to
+//! tell that a call which was spoilt in two ways is refusable for both.
+//!
+//! A cause that speaks of the zone is taken to apply where the zone is not 0 or 1 if it
+//! applies to both; and where lengths differ, a user lacks what is not there.
+
+use crate::limits;
+use crate::spoilt::Call;
+
+/// Those of the hour's causes that apply.
+pub fn hour_causes(call: &Call) -> Vec<u64> {
+    let amounts = &call.amounts;
+    let lists = [
+        amounts.entry.len(),
+        amounts.exit.len(),
+        amounts.title.len(),
+        amounts.pooling.len(),
+        call.quantity.len(),
+        call.money.len(),
+        call.scratch.len(),
+    ];
+    let applies = [
+        record(call),
+        lengths(call, &lists),
+        !zone_is_one(call),
+        of_zone(call, |zone| call.day.closed[zone]),
+        of_zone(call, |zone| {
+            call.hour > limits::HOURS || call.hour.checked_sub(1) != Some(call.day.hours[zone])
+        }),
+        table(call),
+        prices(call)
+            || !limits::UPPER.contains(&amounts.terms.upper)
+            || !limits::LOWER.contains(&amounts.terms.lower),
+        amounts_out(call),
+        amounts.pooling.iter().map(|&amount| i128::from(amount)).sum::<i128>() != 0,
+        of_zone(call, |zone| position_out(call, zone)),
+    ];
+    numbered(&applies)
+}
+
+/// Those of the closing's causes that apply.
+pub fn closing_causes(call: &Call) -> Vec<u64> {
+    let applies = [
+        record(call),
+        lengths(call, &[call.quantity.len(), call.money.len()]),
+        !zone_is_one(call),
+        of_zone(call, |zone| call.day.closed[zone]),
+        of_zone(call, |zone| call.day.hours[zone] < limits::HOURS),
+        table(call),
+        prices(call),
+    ];
+    numbered(&applies)
+}
+
+/// The causes from 2 on that apply.
+fn numbered(applies: &[bool]) -> Vec<u64> {
+    (2..).zip(applies).filter(|(_, &applies)| applies).map(|(cause, _)| cause).collect()
+}
+
+fn record(call: &Call) -> bool {
+    let zone_fits = |zone: usize| {
+        let hours = call.day.hours[zone];
+        (0..=24).contains(&hours) && (hours == 24 || !call.day.closed[zone])
+    };
+    !limits::USERS.contains(&call.day.users) || !zone_fits(0) || !zone_fits(1)
+}
+
+fn lengths(call: &Call, lists: &[usize]) -> bool {
+    call.table.len() != limits::TABLE || lists.iter().any(|&length| length as i64 != call.day.users)
+}
+
+fn zone_is_one(call: &Call) -> bool {
+    call.zone == 0 || call.zone == 1
+}
+
+fn of_zone(call: &Call, applies: impl Fn(usize) -> bool) -> bool {
+    match call.zone {
+        0 => applies(0),
+        1 => applies(1),
+        _ => applies(0) && applies(1),
+    }
+}
+
+fn table(call: &Call) -> bool {
+    call.table.iter().take(limits::TABLE).enumerate().any(|(place, position)| {
+        let (zone, user) = (place / limits::PLACES, (place % limits::PLACES) as i64);
+        let idle = call.day.closed[zone] || call.day.hours[zone] == 0;
+        let unused = idle || user >= call.day.users;
+        !limits::POSITION.contains(position) || (unused && *position != 0)
+    })
+}
+
+fn prices(call: &Call) -> bool {
+    let terms = &call.amounts.terms;
+    !limits::PRICE.contains(&terms.excess_price) || !limits::PRICE.contains(&terms.shortfall_price)
+}
+
+fn amounts_out(call: &Call) -> bool {
+    let amounts = &call.amounts;
+    let out = |list: &[i64], range: std::ops::RangeInclusive<i64>| list.iter().any(|amount| !range.contains(amount));
+    out(&amounts.entry, limits::ENTRY)
+        || out(&amounts.exit, limits::EXIT)
+        || out(&amounts.title, limits::TITLE)
+        || out(&amounts.pooling, limits::POOLING)
+}
+
+fn position_out(call: &Call, zone: usize) -> bool {
+    let amounts = &call.amounts;
+    let lists = [&amounts.entry, &amounts.exit, &amounts.title, &amounts.pooling];
+    let at = |list: &[i64], place: usize| i128::from(list.get(place).copied().unwrap_or(0));
+    let range = i128::from(*limits::POSITION.start())..=i128::from(*limits::POSITION.end());
+    (0..limits::PLACES).any(|user| {
+        let moved: i128 = lists.iter().map(|list| at(list, user)).sum();
+        !range.contains(&(at(&call.table, zone * limits::PLACES + user) + moved))
+    })
+}
