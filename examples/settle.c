@@ -1,4 +1,5 @@
-/* Reads an hour's file from standard input, settles its hour with January's default thresholds, and prints the positions after. */
+/* Reads an hour's file of at most 65,536 bytes from standard input, settles its hour with January's default thresholds, and prints the positions after. A refusal
+ * prints its cause and ends with status 1; a longer input is refused by 14. */
 #include "gas_day.h"
 
 #include <inttypes.h>
@@ -12,13 +13,20 @@ static int refused(uint64_t cause) {
 }
 
 int main(void) {
-    static uint8_t bytes[MOST_BYTES];
+    static uint8_t bytes[MOST_BYTES + 1]; /* one more, to tell a longer input from one that just fits */
     static int64_t table[GAS_DAY_TABLE_PLACES];
     static int64_t entry[GAS_DAY_FILE_PLACES], exits[GAS_DAY_FILE_PLACES], title[GAS_DAY_FILE_PLACES], pooling[GAS_DAY_FILE_PLACES];
     static int64_t quantity[GAS_DAY_FILE_PLACES], money[GAS_DAY_FILE_PLACES];
     static uint64_t scratch[GAS_DAY_FILE_PLACES];
 
-    size_t length = fread(bytes, 1, MOST_BYTES, stdin);
+    if (gas_day_version() != GAS_DAY_VERSION) {
+        fprintf(stderr, "settle: the library is of version %" PRIu64 ", and this program was built for %" PRIu64 "\n", gas_day_version(), GAS_DAY_VERSION);
+        return 2;
+    }
+    size_t length = fread(bytes, 1, sizeof bytes, stdin);
+    if (length > MOST_BYTES) {
+        return refused(GAS_DAY_CAUSE_FILE_FORM);
+    }
     gas_day_file file = gas_day_read_hour_file(bytes, length, entry, GAS_DAY_FILE_PLACES, exits, GAS_DAY_FILE_PLACES, title, GAS_DAY_FILE_PLACES, pooling,
                                                GAS_DAY_FILE_PLACES);
     if (file.cause != GAS_DAY_ACCEPTED) {

@@ -5,14 +5,15 @@ Usage: python3 examples/settle.py LIBRARY FILE, where LIBRARY is the shared libr
 
 import ctypes
 import sys
-from ctypes import POINTER, Structure, c_bool, c_int64, c_size_t, c_uint8, c_uint64
+from ctypes import POINTER, Structure, c_int64, c_size_t, c_uint8, c_uint64
 
+VERSION = 1
 PLACES = 128
 TABLE = 256
 
 
 class ZoneDay(Structure):
-    _fields_ = [("hours", c_int64), ("closed", c_bool)]
+    _fields_ = [("hours", c_int64), ("closed", c_int64)]
 
 
 class Day(Structure):
@@ -53,6 +54,9 @@ LIST = [POINTER(c_int64), c_size_t]
 def load(path):
     """The library, with the types of the calls that are used here."""
     library = ctypes.CDLL(path)
+    library.gas_day_version.restype = c_uint64
+    if library.gas_day_version() != VERSION:
+        raise OSError(f"{path} is of version {library.gas_day_version()}, and version {VERSION} is wanted")
     library.gas_day_open.argtypes = [c_int64] + LIST
     library.gas_day_open.restype = Opened
     library.gas_day_default_thresholds.argtypes = [c_int64, c_int64]

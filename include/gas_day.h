@@ -3,24 +3,32 @@
  * Link with target/staticlib/libgas_day_c.a, which `rt staticlib gas_day_c` makes.
  *
  * Every call answers a cause: 0, and then the answer and every lent area are what the rules name; or the number of the first cause that applies, and then every
- * lent area is as it was, the record is the one given, and the other values are 0. A call returns for every input. It keeps no pointer and no state.
+ * lent area is as it was, the record is the one given, and the other values are 0. A call returns for every input. It keeps no pointer and no state, so calls may
+ * run in parallel, each on areas of its own.
  *
- * Energy is in kWh, a price in millionths of a euro per kWh, money in millionths of a euro. Zones: 0 is H, 1 is L. An area is a pointer and its number of places.
+ * Energy is in kWh, a price in millionths of a euro per kWh, money in millionths of a euro. Zones: 0 is H, 1 is L. An area is a pointer and its number of places;
+ * the pointer of an area of 0 places is not used, and may be NULL.
  *
- * What the caller owes, and no call can check: a pointer to that many places that may be read and, where it is not const, written; no two areas of one call
- * overlap, unless both are const; `closed` is 0 or 1. A pointer of an area of 0 places may be anything but NULL. Every other wrong number or length is
- * refused by its cause.
+ * What the caller owes, and no call can check: an area's places may be read and, where it is not const, written; and no two areas of one call overlap, unless
+ * both are const. Every wrong number and every wrong length is refused by its cause.
+ *
+ * Compare records member by member and not byte by byte: no struct has padding today, but a later version may add some.
  */
 #ifndef GAS_DAY_H
 #define GAS_DAY_H
 
-#include <stdbool.h>
 #include <stddef.h>
 #include <stdint.h>
 
 #ifdef __cplusplus
 extern "C" {
 #endif
+
+/* ---- the version of this header. A library of another version has other structs or other calls: compare before the first call */
+
+#define GAS_DAY_VERSION UINT64_C(1)
+
+uint64_t gas_day_version(void);
 
 /* ---- limits */
 
@@ -42,30 +50,30 @@ extern "C" {
 
 enum {
     GAS_DAY_ACCEPTED = 0,
-    GAS_DAY_USERS = 1,            /* opening: user count not 1 to 128 */
-    GAS_DAY_RECORD = 2,           /* record's user count not 1 to 128, hours not 0 to 24, or a zone closed with fewer than 24 */
-    GAS_DAY_LENGTH = 3,           /* table not of 256 places, or a list or the scratch not of exactly the user count */
-    GAS_DAY_ZONE = 4,             /* zone not 0 or 1 */
-    GAS_DAY_CLOSED = 5,           /* zone closed */
-    GAS_DAY_HOUR = 6,             /* hour is not hours done plus 1, or above 24; at closing, hours done below 24 */
-    GAS_DAY_TABLE = 7,            /* a position outside its range, or a place that has to be zero and is not */
-    GAS_DAY_TERMS = 8,            /* threshold or price out of range; month not 1 to 12 */
-    GAS_DAY_AMOUNT = 9,           /* an amount out of range */
-    GAS_DAY_POOLING = 10,         /* pooling amounts do not add to zero */
-    GAS_DAY_POSITION = 11,        /* a position before settlement out of range */
-    GAS_DAY_FILE_LENGTH = 12,     /* a reader's list not of 128 places */
-    GAS_DAY_FILE_HEADER = 13,     /* header differs */
-    GAS_DAY_FILE_FORM = 14,       /* a line's form or field count */
-    GAS_DAY_FILE_FIELD = 15,      /* a field's number or zone letter */
-    GAS_DAY_FILE_ORDER = 16,      /* h or z differs from the first line, or g is not the next place below 128 */
-    GAS_DAY_FILE_EMPTY = 17       /* no line after the header */
+    GAS_DAY_CAUSE_USERS = 1,        /* opening: user count not 1 to 128 */
+    GAS_DAY_CAUSE_RECORD = 2,       /* record's user count not 1 to 128, hours not 0 to 24, a zone closed with fewer than 24, or `closed` not 0 or 1 */
+    GAS_DAY_CAUSE_LENGTH = 3,       /* table not of 256 places, or a list or the scratch not of exactly the user count */
+    GAS_DAY_CAUSE_ZONE = 4,         /* zone not 0 or 1 */
+    GAS_DAY_CAUSE_CLOSED = 5,       /* zone closed */
+    GAS_DAY_CAUSE_HOUR = 6,         /* hour is not hours done plus 1, or above 24; at closing, hours done below 24 */
+    GAS_DAY_CAUSE_TABLE = 7,        /* a position outside its range, or a place that has to be zero and is not */
+    GAS_DAY_CAUSE_TERMS = 8,        /* threshold or price out of range; month not 1 to 12 */
+    GAS_DAY_CAUSE_AMOUNT = 9,       /* an amount out of range */
+    GAS_DAY_CAUSE_POOLING = 10,     /* pooling amounts do not add to zero */
+    GAS_DAY_CAUSE_POSITION = 11,    /* a position before settlement out of range */
+    GAS_DAY_CAUSE_FILE_LENGTH = 12, /* a reader's list not of 128 places */
+    GAS_DAY_CAUSE_FILE_HEADER = 13, /* header differs */
+    GAS_DAY_CAUSE_FILE_FORM = 14,   /* a line's form or field count */
+    GAS_DAY_CAUSE_FILE_FIELD = 15,  /* a field's number or zone letter */
+    GAS_DAY_CAUSE_FILE_ORDER = 16,  /* h or z differs from the first line, or g is not the next place below 128 */
+    GAS_DAY_CAUSE_FILE_EMPTY = 17   /* no line after the header */
 };
 
 /* ---- the day record: given by value, answered by value */
 
 typedef struct {
-    int64_t hours; /* done, 0 to 24 */
-    bool closed;
+    int64_t hours;  /* done, 0 to 24 */
+    int64_t closed; /* 0 or 1 */
 } gas_day_zone_day;
 
 typedef struct {
@@ -143,7 +151,8 @@ typedef struct {
 gas_day_closing gas_day_close_zone(gas_day_day day, int64_t *table, size_t table_places, gas_day_closing_terms terms, int64_t *quantity,
                                    size_t quantity_places, int64_t *money, size_t money_places);
 
-/* ---- the hour's file: causes 12 to 17. Fills the first as many places of each list as there are lines, and touches no others */
+/* ---- the hour's file: causes 12 to 17. Fills the first as many places of each list as there are lines, and touches no others. A file may have any size: one with
+ * more than 128 lines is refused like any other that breaks a rule */
 
 typedef struct {
     uint64_t cause;

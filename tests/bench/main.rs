@@ -36,11 +36,11 @@ fn library_hour(input: &Input, lent: &mut Lent) -> u64 {
         users: input.users,
         h: ZoneDay {
             hours: 1,
-            closed: false,
+            closed: 0,
         },
         l: ZoneDay {
             hours: input.hours_l,
-            closed: input.closed_l,
+            closed: i64::from(input.closed_l),
         },
     };
     let terms = HourTerms {
@@ -70,7 +70,7 @@ fn ordinary_hour(input: &Input, lent: &mut Lent) -> u64 {
     let day = ordinary::Day {
         users: input.users,
         hours: [1, input.hours_l],
-        closed: [false, input.closed_l],
+        closed: [0, i64::from(input.closed_l)],
     };
     let answer = ordinary::settle_hour(
         day,

@@ -131,7 +131,7 @@ fn odd(random: &mut Random, users: usize, call: &mut Call) {
     match random.below(16) {
         0 => call.day.users = number,
         1 => call.day.hours[random.below(2)] = number,
-        2 => call.day.closed[random.below(2)] ^= true,
+        2 => call.day.closed[random.below(2)] = random.pick([0, 1, 2, number]),
         3 => {
             let place = random.below(call.table.len());
             call.table.iter_mut().skip(place).take(1).for_each(|position| *position = number);

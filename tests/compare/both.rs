@@ -36,7 +36,7 @@ fn as_ordinary(day: Day) -> ordinary::Day {
 const NO_DAY: ordinary::Day = ordinary::Day {
     users: 0,
     hours: [0; 2],
-    closed: [false; 2],
+    closed: [0; 2],
 };
 
 /// Of an hour: cause, side (0 within, 1 excess, 2 shortfall), total, the two words of marks, and their number.

@@ -10,6 +10,7 @@ use both::Run;
 use counts::Counts;
 
 fn main() {
+    assert_eq!(library::version(), 1, "the library is of another version");
     let mut run = Run {
         at: String::new(),
         counts: Counts::new(),

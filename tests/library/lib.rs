@@ -1,11 +1,11 @@
 //! The library's calls through its C boundary, for Rust: slices in place of pointers and lengths. The layouts are those of `include/gas_day.h`.
 
-/// Of one zone: the hours done, and whether it is closed.
+/// Of one zone: the hours done, and whether it is closed, 0 or 1.
 #[repr(C)]
 #[derive(Clone, Copy, PartialEq, Eq, Debug)]
 pub struct ZoneDay {
     pub hours: i64,
-    pub closed: bool,
+    pub closed: i64,
 }
 
 /// The day record.
@@ -87,6 +87,7 @@ mod boundary {
 
     #[link(name = "gas_day_c", kind = "static")]
     extern "C" {
+        pub fn gas_day_version() -> u64;
         pub fn gas_day_open(users: i64, table: *mut i64, places: usize) -> Opened;
         pub fn gas_day_default_thresholds(month: i64, zone: i64) -> Thresholds;
         pub fn gas_day_settle_hour(
@@ -135,6 +136,11 @@ mod boundary {
 }
 
 // A slice is a pointer, never null, to as many places as its length, and two slices of which one is `&mut` do not overlap: what the header asks of a caller.
+
+/// The version of the header that the library was built for.
+pub fn version() -> u64 {
+    unsafe { boundary::gas_day_version() }
+}
 
 pub fn open(users: i64, table: &mut [i64]) -> Opened {
     unsafe { boundary::gas_day_open(users, table.as_mut_ptr(), table.len()) }

@@ -1,10 +1,10 @@
--- All figures, and the whole day, by computing the definitions. Assumes nothing.
+-- All figures, and the further examples, by computing the definitions. Assumes nothing.
 use mathlib.Core.Path.{refl}
 use Rattle.rules.specs.Compute.{rules}
 use Rattle.allocation_file.specs.Rows.{asRow}
 use Rattle.allocation_file.specs.File.{fileOf}
 use Rattle.cases.specs.Cases.{opened, termsOf, moved, said, quantity, money, left, hourFigures, nines, fileA, saidBy, saidA, caseA, figuresA, caseB, figuresB, figuresC, figuresD, figuresE, figuresF, figuresG, caseI, figuresI, figuresJ, tableH, caseH, figuresH, figuresK, figures, AllFigures}
-use Rattle.cases.specs.WholeDay.{exampleHour, exampleClosing, hoursFrom, wholeDay, start, WholeDay, Defaults}
+use Rattle.cases.specs.Examples.{exampleHour, exampleClosing, hoursFrom, wholeDay, start, WholeDay, TwelveUsers, Defaults}
 
 pub all-figures : AllFigures
 unfolding rules asRow fileOf opened termsOf moved said quantity money left hourFigures nines fileA saidBy saidA caseA figuresA caseB figuresB figuresC figuresD figuresE figuresF figuresG caseI figuresI figuresJ tableH caseH figuresH figuresK figures
@@ -13,6 +13,10 @@ all-figures = refl
 pub whole-day : WholeDay
 unfolding rules exampleHour exampleClosing hoursFrom wholeDay start
 whole-day = (refl, refl, refl, refl)
+
+pub twelve-users : TwelveUsers
+unfolding rules
+twelve-users = refl
 
 pub defaults : Defaults
 unfolding rules

@@ -1,3 +1,3 @@
--- "Figures to be proved: cases A to K", and a whole day.
+-- "Figures to be proved: cases A to K", and further examples: a whole day, twelve users, the lower defaults.
 pub mod Cases
-pub mod WholeDay
+pub mod Examples

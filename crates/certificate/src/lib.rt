@@ -9,8 +9,10 @@ ghost use Rattle.largest_remainder.specs.Guarantees.{AddsUp, Accurate, NoMoreTh
 ghost use Rattle.rules.specs.Guarantees.{BeginsAtZero, AcceptedIfFit, Conservation, ClosedIsZero, ClosedIsMarked, Accuracy, OutcomeByThresholds, MarksAreCausers};
 ghost use Rattle.file_guarantees.specs.Guarantees.{ReadIfObeyed, FirstFaultDecides, AcceptedObeys, CauseGiven, SmallNumbers};
 ghost use Rattle.file_guarantees.specs.Examples.{ExamplesComputed, CaseA};
+ghost use Rattle.gas_day_c.specs.Guarantees.{RecordKept, OddMarkRefused};
+ghost use Rattle.report.specs.Examples.{DecimalsShown, CaseAShown, RefusalShown};
 ghost use Rattle.cases.specs.Cases.{AllFigures};
-ghost use Rattle.cases.specs.WholeDay.{WholeDay, Defaults};
+ghost use Rattle.cases.specs.Examples.{WholeDay, TwelveUsers, Defaults};
 
 // ---- the initial state
 
@@ -102,6 +104,18 @@ pub fn nobody_is_settled_for_more_than_its_size()
     ensures { λ _. ⌜ NoMoreThanSize ⌝ }
 {}
 
+// ---- the record at the boundary to C, where whether a zone is closed is a number, 0 or 1
+
+// "each gets the record that the last call returned": a record that a call answers to C is, given to the next call, the record of the rules.
+pub fn a_record_comes_back_from_c_as_it_went()
+    ensures { λ _. ⌜ RecordKept ⌝ }
+{}
+
+// "Every public call accepts every input, checks it itself": a record with another number there is cause 2, and comes back as it was given.
+pub fn a_record_with_an_odd_mark_is_refused()
+    ensures { λ _. ⌜ OddMarkRefused ⌝ }
+{}
+
 // ---- figures
 
 // Document 01: "Cases A to K, A by its reading and its settled numbers, stand as one list with a single proof over the definitions"
@@ -112,6 +126,11 @@ pub fn cases_a_to_k_hold()
 // A day of 24 hours with refused calls in it, and its closing: what the theorems on lists speak of is there.
 pub fn a_whole_day_can_be_run()
     ensures { λ _. ⌜ WholeDay ⌝ }
+{}
+
+// Rule 4 among twelve users: "the largest fractions; among equal fractions, the lower place first".
+pub fn twelve_users_share_by_fractions()
+    ensures { λ _. ⌜ TwelveUsers ⌝ }
 {}
 
 // Document 01: "January to December, upper threshold; the lower one is its negation."
@@ -127,4 +146,19 @@ pub fn case_a_is_read()
 // Small files of every kind, read or refused as document 01 and its readings in docs/DECISIONS.md say.
 pub fn small_files_are_read_as_decided()
     ensures { λ _. ⌜ ExamplesComputed ⌝ }
+{}
+
+// The program's text: decimals up to the ends of 64 bits,
+pub fn decimals_are_shown()
+    ensures { λ _. ⌜ DecimalsShown ⌝ }
+{}
+
+// case A's output, whole,
+pub fn case_a_is_shown()
+    ensures { λ _. ⌜ CaseAShown ⌝ }
+{}
+
+// and "the one line `refused,` with the number and nothing more".
+pub fn a_refusal_is_shown()
+    ensures { λ _. ⌜ RefusalShown ⌝ }
 {}

@@ -180,7 +180,7 @@ obeyed s = go (begins s header) refl
   where
     whole : (f : File) → begins s header ≡ true → IfRead (Body (linesOf s)) f → IfRead (Obeys s) f
     whole (refused c) e b = tt
-    whole (read h z rows) e b = record { opens = begins-take s header e; some = b .some; standing = turned-standing (linesOf s) h z rows (b .are) }
+    whole (read h z rows) e b = record { opens = begins-take s header e; some = omega (arith, b .some); standing = turned-standing (linesOf s) h z rows (b .are) }
 
     go : (b : Bool) → begins s header ≡ b → IfRead (Obeys s) (cond b (bodyOf (linesOf s)) (refused 13))
     go true e = whole (bodyOf (linesOf s)) e (body (linesOf s))

@@ -6,8 +6,8 @@ use Rattle.rules.specs.Compute.{rules}
 use Rattle.report.specs.Decimals.{digitsIn, digits, decimal}
 use Rattle.report.specs.Text.{lineEnd, heading, field, userLine, refusedLine, lineAt, userLines, hourText}
 use Rattle.firsthour.specs.Printed.{unlessRefused, settled, termsOf, januaryTerms, withDefaults, opened, openedNew, ofFile, printed}
-use Rattle.firsthour.specs.Examples.{ExamplesComputed}
+use Rattle.firsthour.specs.Examples.{ExamplesPrinted}
 
-pub examples-computed : ExamplesComputed
+pub examples-printed : ExamplesPrinted
 unfolding asRow fileOf rules digitsIn digits decimal lineEnd heading field userLine refusedLine lineAt userLines hourText unlessRefused settled termsOf januaryTerms withDefaults opened openedNew ofFile printed
-examples-computed = record { case-a = refl; empty = refl; header-only = refl; hour-2 = refl; zone-l = refl }
+examples-printed = record { case-a = refl; empty = refl; header-only = refl; hour-2 = refl; zone-l = refl }

@@ -18,7 +18,8 @@ use Rattle.rules.specs.Market.{quantities, after}
 use Rattle.rules.specs.Causes.{hourCause, beforeFit}
 use Rattle.rules.specs.Answers.{hourImbalance, hourAnswer, hourTable, hourQuantity, hourMoney, hourNumber}
 use Rattle.rules.proofs.Refusing.{some-cause, by-none, by-some}
-use Rattle.rules.proofs.Accepted.{hour-fit, hour-number, hour-sound, hour-lengths}
+use Rattle.rules.proofs.Accepted.{hour-number, hour-sound, hour-lengths}
+use Rattle.rules.proofs.Guarantees.{accepted-if-fit}
 use Rattle.rules.proofs.Small.{positions-small}
 use Rattle.rules.proofs.Conserving.{length-before, positions-left}
 use Rattle.rules.proofs.Settling.{length-quantities, after-at}
@@ -103,7 +104,7 @@ module _ (d : Day) (t : List ℤ) (g : Hour) where
       unfolding beforeFit
       done-asks r lt lm =
           let s = hour-sound d t g k in
-          let f = hour-fit d t g k in
+          let f = accepted-if-fit .0 d t g .0 (hour-number d t g ∙ k) in
           let l = hour-lengths d t g (f .lengths) in
           record {
             room = r .room;

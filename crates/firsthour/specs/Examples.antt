@@ -10,7 +10,7 @@ use Rattle.firsthour.specs.Printed.{printed}
 abbrev pub Prints : String → String → Type 0
 Prints input output = printed (bytes input) ≡ bytes output
 
-pub record ExamplesComputed : Type 0 where
+pub record ExamplesPrinted : Type 0 where
   pub case-a : Prints caseAText caseAOutput
   pub empty : Prints "" "refused,13\r\n"
   pub header-only : Prints "h,z,g,EEA,XEA,NCTTN,IPT\r\n" "refused,17\r\n"

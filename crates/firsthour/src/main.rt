@@ -10,6 +10,7 @@ ghost use Rattle.allocation_file.specs.File.{fileOf};
 ghost use Rattle.io.specs.Counts.{Counts};
 ghost use Rattle.report.specs.Puts.{Put};
 ghost use Rattle.firsthour.specs.Lent.{sums, Adds, Settled, settledText, TextRoom, ReadLists};
+ghost use Rattle.firsthour.specs.Examples.{ExamplesPrinted};
 ghost use Rattle.firsthour.specs.Printed.{settled, termsOf, withDefaults, opened, openedNew, ofFile, printed};
 use allocation_file::FileAnswer;
 use allocation_file::read_hour_file;
@@ -293,6 +294,11 @@ fn read_input(room: &mut [u8]) -> usize
 {
     io::read_full(STDIN_FILENO, room)
 }
+
+// Document 01's case A from its input to its output, and inputs that are refused: what the definitions print. Nothing calls this; it asks for the proof.
+fn examples_are_printed()
+    ensures { λ _. ⌜ ExamplesPrinted ⌝ }
+{}
 
 fn main() {
     let mut input = [0u8; INPUT_MOST + 1];

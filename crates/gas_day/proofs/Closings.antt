@@ -16,7 +16,8 @@ use Rattle.rules.specs.Promises.{ClosingPromise}
 use Rattle.rules.proofs.Refusing.{some-cause, by-none, by-some}
 use Rattle.rules.proofs.Zones.{length-part}
 use Rattle.rules.specs.Guarantees.{ClosingFit}
-use Rattle.rules.proofs.Accepted.{closing-fit, ClosingLengths, closing-lengths, closing-sound, part-fits}
+use Rattle.rules.proofs.Accepted.{closing-number, ClosingLengths, closing-lengths, closing-sound, part-fits}
+use Rattle.rules.proofs.Guarantees.{accepted-if-fit}
 use Rattle.closing.specs.Steps.{TableAsks, TableLeaves}
 
 module _ (d : Day) (t : List ℤ) (g : Closing) (c : ℕ) (is : c ≡ closingCause d t g) where
@@ -36,7 +37,7 @@ module _ (d : Day) (t : List ℤ) (g : Closing) (c : ℕ) (is : c ≡ closingCau
     none = sym is ∙ z
 
     fit : ClosingFit d t g
-    fit = closing-fit d t g none
+    fit = accepted-if-fit .1 d t g .0 (closing-number d t g ∙ none)
 
     lengths : ClosingLengths (users d) g
     lengths = closing-lengths d t g (fit .lengths)

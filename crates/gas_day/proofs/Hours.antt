@@ -16,7 +16,8 @@ use Rattle.rules.specs.Promises.{HourPromise}
 use Rattle.rules.proofs.Refusing.{some-cause, by-none, by-some}
 use Rattle.rules.proofs.Zones.{length-part}
 use Rattle.rules.specs.Guarantees.{HourFit}
-use Rattle.rules.proofs.Accepted.{hour-fit, HourLengths, hour-lengths, hour-sound, part-fits}
+use Rattle.rules.proofs.Accepted.{hour-number, HourLengths, hour-lengths, hour-sound, part-fits}
+use Rattle.rules.proofs.Guarantees.{accepted-if-fit}
 use Rattle.positions.specs.Before.{befores, allFit}
 use Rattle.positions.proofs.Before.{before-is}
 use Rattle.settlement.specs.Steps.{TableAsks, TableLeaves}
@@ -39,7 +40,7 @@ module _ (d : Day) (t : List ℤ) (g : Hour) (c : ℕ) (is : c ≡ hourCause d t
     none = sym is ∙ z
 
     fit : HourFit d t g
-    fit = hour-fit d t g none
+    fit = accepted-if-fit .0 d t g .0 (hour-number d t g ∙ none)
 
     lengths : HourLengths (users d) g
     lengths = hour-lengths d t g (fit .lengths)

@@ -4,7 +4,6 @@ use mathlib.Core.Path.{_≡_}
 use mathlib.Core.List.{List}
 use Prim.Native.Nat.{ℕ}
 use lib.IntN.{ℤ, pos}
-use Rattle.rules.specs.declared.Day.{Day}
 use Rattle.rules.specs.declared.Side.the-variants.{Excess, Shortfall}
 use Rattle.rules.specs.declared.Outcome.{Outcome}
 use Rattle.rules.specs.declared.Outcome.the-variants.{Within, Settled}
@@ -22,17 +21,23 @@ use Rattle.rules.specs.Answers.{openAnswer, openTable, hourAnswer, hourTable, h
 use Rattle.allocation_file.specs.declared.FileAnswer.{FileAnswer}
 use Rattle.allocation_file.specs.declared.FileAnswer.the-variants.{Refused as FileRefused, Read}
 use Rattle.allocation_file.specs.File.{outcome, answerOf, listOf}
+use Rattle.gas_day_c.specs.declared.day.DayC.{DayC}
 use Rattle.gas_day_c.specs.declared.OpenC.{OpenC}
 use Rattle.gas_day_c.specs.declared.ThresholdsC.{ThresholdsC}
 use Rattle.gas_day_c.specs.declared.HourC.{HourC}
 use Rattle.gas_day_c.specs.declared.ClosingC.{ClosingC}
 use Rattle.gas_day_c.specs.declared.FileC.{FileC}
+use Rattle.gas_day_c.specs.Records.{dayForC, dayOf}
+
+-- the interface's version
+unfoldable pub version : ℕ
+version = 1
 
 -- ---- opening: a refusal gives the record of no users
 
 abbrev pub flatOpen : OpenAnswer → OpenC
-flatOpen (OpenRefused k) = record { cause = k; day = newDay (pos 0) }
-flatOpen (Opened d) = record { cause = 0; day = d }
+flatOpen (OpenRefused k) = record { cause = k; day = dayForC (newDay (pos 0)) }
+flatOpen (Opened d) = record { cause = 0; day = dayForC d }
 
 pub record OpenForC (n : ℤ) (t t' : List ℤ) (r : OpenC) : Type 0 where
   pub answer : r ≡ flatOpen (openAnswer n t)
@@ -46,33 +51,41 @@ flatThresholds (Defaults t) = record { cause = 0; upper = t .upper; lower = t .l
 
 -- ---- an hour: the side is 0 within the thresholds, 1 in an excess, 2 in a shortfall
 
-abbrev pub flatDone : Day → Outcome → HourC
+abbrev pub flatDone : DayC → Outcome → HourC
 flatDone d Within = record { cause = 0; day = d; side = 0; total = pos 0; first = 0; second = 0; number = 0 }
 flatDone d (Settled (Excess n) m) = record { cause = 0; day = d; side = 1; total = n; first = m .first; second = m .second; number = m .number }
 flatDone d (Settled (Shortfall n) m) = record { cause = 0; day = d; side = 2; total = n; first = m .first; second = m .second; number = m .number }
 
-abbrev pub flatHour : HourAnswer → HourC
-flatHour (HourRefused r) = record { cause = r .number; day = r .day; side = 0; total = pos 0; first = 0; second = 0; number = 0 }
-flatHour (Done r) = flatDone (r .day) (r .outcome)
+-- "number, same record": the record as it was given
+abbrev pub refusedHour : DayC → ℕ → HourC
+refusedHour d k = record { cause = k; day = d; side = 0; total = pos 0; first = 0; second = 0; number = 0 }
 
-pub record HourForC (d : Day) (t : List ℤ) (g : Hour) (t' q' m' : List ℤ) (s' : List ℕ) (r : HourC) : Type 0 where
-  pub answer : r ≡ flatHour (hourAnswer d t g)
-  pub table : t' ≡ hourTable d t g
-  pub quantity : q' ≡ hourQuantity d t g
-  pub money : m' ≡ hourMoney d t g
-  pub scratch : s' ≡ hourScratch d t g
+-- for the record d that was given
+abbrev pub flatHour : DayC → HourAnswer → HourC
+flatHour d (HourRefused r) = refusedHour d (r .number)
+flatHour d (Done r) = flatDone (dayForC (r .day)) (r .outcome)
+
+pub record HourForC (d : DayC) (t : List ℤ) (g : Hour) (t' q' m' : List ℤ) (s' : List ℕ) (r : HourC) : Type 0 where
+  pub answer : r ≡ flatHour d (hourAnswer (dayOf d) t g)
+  pub table : t' ≡ hourTable (dayOf d) t g
+  pub quantity : q' ≡ hourQuantity (dayOf d) t g
+  pub money : m' ≡ hourMoney (dayOf d) t g
+  pub scratch : s' ≡ hourScratch (dayOf d) t g
 
 -- ---- a closing
 
-abbrev pub flatClosing : ClosingAnswer → ClosingC
-flatClosing (ClosingRefused r) = record { cause = r .number; day = r .day; sold = pos 0; bought = pos 0 }
-flatClosing (Closed r) = record { cause = 0; day = r .day; sold = r .sold; bought = r .bought }
+abbrev pub refusedClosing : DayC → ℕ → ClosingC
+refusedClosing d k = record { cause = k; day = d; sold = pos 0; bought = pos 0 }
 
-pub record ClosingForC (d : Day) (t : List ℤ) (g : Closing) (t' q' m' : List ℤ) (r : ClosingC) : Type 0 where
-  pub answer : r ≡ flatClosing (closingAnswer d t g)
-  pub table : t' ≡ closingTable d t g
-  pub quantity : q' ≡ closingQuantity d t g
-  pub money : m' ≡ closingMoney d t g
+abbrev pub flatClosing : DayC → ClosingAnswer → ClosingC
+flatClosing d (ClosingRefused r) = refusedClosing d (r .number)
+flatClosing d (Closed r) = record { cause = 0; day = dayForC (r .day); sold = r .sold; bought = r .bought }
+
+pub record ClosingForC (d : DayC) (t : List ℤ) (g : Closing) (t' q' m' : List ℤ) (r : ClosingC) : Type 0 where
+  pub answer : r ≡ flatClosing d (closingAnswer (dayOf d) t g)
+  pub table : t' ≡ closingTable (dayOf d) t g
+  pub quantity : q' ≡ closingQuantity (dayOf d) t g
+  pub money : m' ≡ closingMoney (dayOf d) t g
 
 -- ---- the hour's file
 

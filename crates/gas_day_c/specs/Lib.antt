@@ -1,2 +1,4 @@
--- The answers as C holds them, and what the calls for C promise.
+-- The record and the answers as C holds them, what the calls for C promise, and what is proved of the record.
+pub mod Records
 pub mod Flat
+pub mod Guarantees

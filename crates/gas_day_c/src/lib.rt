@@ -3,36 +3,31 @@
 ghost use mathlib.Core.Path.{_≡_};
 ghost use Rattle.rules.specs.Hours.{hourGiven, closingGiven};
 ghost use Rattle.rules.specs.Answers.{thresholdsAnswer};
-ghost use Rattle.gas_day_c.specs.Flat.{flatOpen, OpenForC, flatThresholds, flatDone, flatHour, HourForC, flatClosing, ClosingForC, flatFile, FileForC};
+ghost use Rattle.gas_day_c.specs.Records.{dayOf};
+ghost use Rattle.gas_day_c.specs.Flat.{version, flatOpen, OpenForC, flatThresholds, flatDone, flatHour, HourForC, flatClosing, ClosingForC, flatFile, FileForC};
+
+pub mod day;
+
 use allocation_file::FileAnswer;
+use day::DayC;
+use day::ZoneDayC;
 use rules::ClosingAnswer;
 use rules::ClosingTerms;
-use rules::Day;
 use rules::HourAnswer;
 use rules::HourTerms;
 use rules::OpenAnswer;
 use rules::Outcome;
 use rules::Side;
 use rules::ThresholdsAnswer;
-use rules::ZoneDay;
 
-// The same record, field by field: of the bytes that C's layout leaves unused none is copied.
-fn same_day(day: Day) -> Day
-    ensures { λ r. ⌜ r ≡ day ⌝ }
+// The interface's version: one more where a client that was built with an older header would call it wrongly.
+pub const VERSION: u64 = 1;
+
+#[no_mangle]
+pub extern "C" fn gas_day_version() -> u64
+    ensures { λ r. ⌜ r ≡ version ⌝ }
 {
-    let h = day.h;
-    let l = day.l;
-    Day {
-        users: day.users,
-        h: ZoneDay {
-            hours: h.hours,
-            closed: h.closed,
-        },
-        l: ZoneDay {
-            hours: l.hours,
-            closed: l.closed,
-        },
-    }
+    VERSION
 }
 
 // ---- opening
@@ -40,7 +35,7 @@ fn same_day(day: Day) -> Day
 #[repr(C)]
 pub struct OpenC {
     pub cause: u64,
-    pub day: Day,
+    pub day: DayC,
 }
 
 fn flat_open(answer: OpenAnswer) -> OpenC
@@ -48,18 +43,21 @@ fn flat_open(answer: OpenAnswer) -> OpenC
 {
     match answer {
         OpenAnswer::Refused(cause) => {
-            let none = ZoneDay {
+            let none = ZoneDayC {
                 hours: 0,
-                closed: false,
+                closed: 0,
             };
-            let day = Day {
+            let day = DayC {
                 users: 0,
                 h: none,
                 l: none,
             };
             OpenC { cause, day }
         }
-        OpenAnswer::Opened(day) => OpenC { cause: 0, day },
+        OpenAnswer::Opened(opened) => {
+            let day = day::day_for_c(opened);
+            OpenC { cause: 0, day }
+        }
     }
 }
 
@@ -109,7 +107,7 @@ pub extern "C" fn gas_day_default_thresholds(month: i64, zone: i64) -> Threshold
 #[repr(C)]
 pub struct HourC {
     pub cause: u64,
-    pub day: Day,
+    pub day: DayC,
     pub side: u64,
     pub total: i64,
     pub first: u64,
@@ -117,7 +115,7 @@ pub struct HourC {
     pub number: u64,
 }
 
-fn flat_done(day: Day, outcome: Outcome) -> HourC
+fn flat_done(day: DayC, outcome: Outcome) -> HourC
     ensures { λ r. ⌜ r ≡ flatDone day outcome ⌝ }
 {
     match outcome {
@@ -153,33 +151,29 @@ fn flat_done(day: Day, outcome: Outcome) -> HourC
     }
 }
 
-fn flat_hour(answer: HourAnswer) -> HourC
-    ensures { λ r. ⌜ r ≡ flatHour answer ⌝ }
+fn flat_hour(day: DayC, answer: HourAnswer) -> HourC
+    ensures { λ r. ⌜ r ≡ flatHour day answer ⌝ }
 {
     match answer {
-        HourAnswer::Refused(refusal) => {
-            let day = same_day(refusal.day);
-            HourC {
-                cause: refusal.number,
-                day,
-                side: 0,
-                total: 0,
-                first: 0,
-                second: 0,
-                number: 0,
-            }
-        }
+        HourAnswer::Refused(refusal) => HourC {
+            cause: refusal.number,
+            day,
+            side: 0,
+            total: 0,
+            first: 0,
+            second: 0,
+            number: 0,
+        },
         HourAnswer::Done(done) => {
-            let day = same_day(done.day);
             let outcome = done.outcome;
-            flat_done(day, outcome)
+            flat_done(day::day_for_c(done.day), outcome)
         }
     }
 }
 
 #[no_mangle]
 pub extern "C" fn gas_day_settle_hour(
-    day: Day,
+    day: DayC,
     table: &mut [i64],
     terms: HourTerms,
     entry: &[i64],
@@ -192,8 +186,8 @@ pub extern "C" fn gas_day_settle_hour(
 ) -> HourC
     ensures { λ r. ⌜ HourForC day (now (table .entry)) (hourGiven terms (now (entry .entry)) (now (exit .entry)) (now (title .entry)) (now (pooling .entry)) (now (quantity .entry)) (now (money .entry)) (now (scratch .entry))) (now (table .exit)) (now (quantity .exit)) (now (money .exit)) (now (scratch .exit)) r ⌝ }
 {
-    flat_hour(gas_day::settle_hour(
-        day,
+    let answer = gas_day::settle_hour(
+        day::day_of(day),
         table,
         terms,
         entry,
@@ -203,7 +197,8 @@ pub extern "C" fn gas_day_settle_hour(
         quantity,
         money,
         scratch,
-    ))
+    );
+    flat_hour(day, answer)
 }
 
 // ---- a closing
@@ -211,39 +206,33 @@ pub extern "C" fn gas_day_settle_hour(
 #[repr(C)]
 pub struct ClosingC {
     pub cause: u64,
-    pub day: Day,
+    pub day: DayC,
     pub sold: i64,
     pub bought: i64,
 }
 
-fn flat_closing(answer: ClosingAnswer) -> ClosingC
-    ensures { λ r. ⌜ r ≡ flatClosing answer ⌝ }
+fn flat_closing(day: DayC, answer: ClosingAnswer) -> ClosingC
+    ensures { λ r. ⌜ r ≡ flatClosing day answer ⌝ }
 {
     match answer {
-        ClosingAnswer::Refused(refusal) => {
-            let day = refusal.day;
-            ClosingC {
-                cause: refusal.number,
-                day,
-                sold: 0,
-                bought: 0,
-            }
-        }
-        ClosingAnswer::Closed(done) => {
-            let day = done.day;
-            ClosingC {
-                cause: 0,
-                day,
-                sold: done.sold,
-                bought: done.bought,
-            }
-        }
+        ClosingAnswer::Refused(refusal) => ClosingC {
+            cause: refusal.number,
+            day,
+            sold: 0,
+            bought: 0,
+        },
+        ClosingAnswer::Closed(done) => ClosingC {
+            cause: 0,
+            day: day::day_for_c(done.day),
+            sold: done.sold,
+            bought: done.bought,
+        },
     }
 }
 
 #[no_mangle]
 pub extern "C" fn gas_day_close_zone(
-    day: Day,
+    day: DayC,
     table: &mut [i64],
     terms: ClosingTerms,
     quantity: &mut [i64],
@@ -251,7 +240,8 @@ pub extern "C" fn gas_day_close_zone(
 ) -> ClosingC
     ensures { λ r. ⌜ ClosingForC day (now (table .entry)) (closingGiven terms (now (quantity .entry)) (now (money .entry))) (now (table .exit)) (now (quantity .exit)) (now (money .exit)) r ⌝ }
 {
-    flat_closing(gas_day::close_zone(day, table, terms, quantity, money))
+    let answer = gas_day::close_zone(day::day_of(day), table, terms, quantity, money);
+    flat_closing(day, answer)
 }
 
 // ---- the hour's file

@@ -5,7 +5,7 @@ use mathlib.Core.Logic.{_⊎_, inl, inr, ⊎-elim}
 use mathlib.Core.List.{List, [], _∷_, map}
 use Prim.Native.Nat.{ℕ, zero, suc, _+_, _*_, _≤_, _<_, zero-le}
 use native.Mathlib.Omega.{arith}
-use native.Mathlib.Nat.{div-add-mod', mod-lt, mul-zero, zero-mod, eq-zero-or-pos, le-of-mul-le-mul-right}
+use native.Mathlib.Nat.{div-add-mod', mod-lt, mul-zero, zero-mod, eq-zero-or-pos, le-of-mul-le-mul-right, mul-le-mul-right}
 use lib.Dec.{ltb, eqb}
 use lib.ListN.{length, getD, take, length-map}
 use borrow.Author.Tests.{ltb-false, lt-ltb, le-ltb}
@@ -52,11 +52,12 @@ module _ (sizes : List ℕ) (total : ℕ) where
     pub wholes-le : sum (map (whole sizes total) sizes) ≤ total
     wholes-le = le-of-mul-le-mul-right (omega (arith, sums sizes)) some
 
-    pub whole-spare : sum (map (whole sizes total) sizes) + spare sizes total ≡ total
+    -- and with the spare units no more either
+    spare-fits : sum (map (whole sizes total) sizes) + spare sizes total ≤ total
     unfolding spare
-    whole-spare = omega (arith, wholes-le)
+    spare-fits = omega (arith, wholes-le)
 
-    -- the spare units are the sum of the remainders, so there are no more of them than users with one
+    -- the spare units are no more than the sum of the remainders, so there are no more of them than users with one
     fractions-le : (ys : List ℕ) → sum (map (fraction sizes total) ys) ≤ above (map (fraction sizes total) ys) 0 * sum sizes
     unfolding sum count
     fractions-le [] = zero-le
@@ -67,7 +68,7 @@ module _ (sizes : List ℕ) (total : ℕ) where
         go false e = omega (arith, ltb-false 0 (fraction sizes total y) e)
 
     pub spare-le : spare sizes total ≤ above fractions 0
-    spare-le = le-of-mul-le-mul-right (omega (arith, sums sizes, ap (λ (x : ℕ). x * sum sizes) whole-spare, fractions-le sizes)) some
+    spare-le = le-of-mul-le-mul-right (omega (arith, sums sizes, mul-le-mul-right (sum sizes) spare-fits, fractions-le sizes)) some
 
     module _ (i : ℕ) (h : i < length sizes) where
       fraction-at : getD fractions i 0 ≡ fraction sizes total (getD sizes i 0)

@@ -2,16 +2,16 @@
 use mathlib.Core.Path.{refl}
 use Rattle.report.specs.Decimals.{digitsIn, digits, decimal}
 use Rattle.report.specs.Text.{lineEnd, heading, field, userLine, refusedLine, lineAt, userLines, hourText}
-use Rattle.report.specs.Examples.{examples, ExamplesComputed, CaseA, RefusedComputed}
+use Rattle.report.specs.Examples.{examples, DecimalsShown, CaseAShown, RefusalShown}
 
-pub examples-computed : ExamplesComputed
+pub decimals-shown : DecimalsShown
 unfolding digitsIn digits decimal examples
-examples-computed = refl
+decimals-shown = refl
 
-pub case-a : CaseA
+pub case-a-shown : CaseAShown
 unfolding digitsIn digits decimal lineEnd heading field userLine lineAt userLines hourText
-case-a = refl
+case-a-shown = refl
 
-pub refused-computed : RefusedComputed
+pub refusal-shown : RefusalShown
 unfolding digitsIn digits decimal lineEnd refusedLine
-refused-computed = refl
+refusal-shown = refl

@@ -1,4 +1,4 @@
 -- Laws of decimals, and of text that is written in parts.
 pub mod Decimals
 pub mod Puts
-mod Examples
+pub mod Examples

@@ -29,15 +29,15 @@ examples =
     ∷ shown (negsuc (2 ^ 63 - 1)) "-9223372036854775808"
     ∷ []
 
-abbrev pub ExamplesComputed : Type 0
-ExamplesComputed = map (λ e. decimal (e .number)) examples ≡ map (λ e. bytes (e .text)) examples
+abbrev pub DecimalsShown : Type 0
+DecimalsShown = map (λ e. decimal (e .number)) examples ≡ map (λ e. bytes (e .text)) examples
 
 -- document 01's case A: its output, whole
 abbrev pub caseAOutput : String
 caseAOutput = "g,before,q,money,after\r\n0,20000000,3333333,66666660000,16666667\r\n1,10000000,1666667,33333340000,8333333\r\n2,-3000000,0,0,-3000000\r\n"
 
-abbrev pub CaseA : Type 0
-CaseA =
+abbrev pub CaseAShown : Type 0
+CaseAShown =
     hourText
     (pos 20_000_000 ∷ pos 10_000_000 ∷ negsuc 2_999_999 ∷ [])
     (pos 3_333_333 ∷ pos 1_666_667 ∷ pos 0 ∷ [])
@@ -45,5 +45,5 @@ CaseA =
     (pos 16_666_667 ∷ pos 8_333_333 ∷ negsuc 2_999_999 ∷ [])
     ≡ bytes caseAOutput
 
-abbrev pub RefusedComputed : Type 0
-RefusedComputed = refusedLine 14 ≡ bytes "refused,14\r\n"
+abbrev pub RefusalShown : Type 0
+RefusalShown = refusedLine 14 ≡ bytes "refused,14\r\n"

@@ -54,9 +54,13 @@ module _ (i : Imbalance) (ps : List ℤ) where
   unfolding sizes
   length-sizes = length-map ps (size i)
 
+  length-settled : length (settledSizes i ps) ≡ length ps
+  unfolding settledSizes
+  length-settled = settled-long (sizes i ps) _ ∙ length-sizes
+
   pub length-quantities : length (quantities i ps) ≡ length ps
-  unfolding quantities settledSizes
-  length-quantities = length-map (settledSizes i ps) (signed i) ∙ settled-long (sizes i ps) (total i) ∙ length-sizes
+  unfolding quantities
+  length-quantities = length-map (settledSizes i ps) (signed i) ∙ length-settled
 
   pub length-after : length (after i ps) ≡ length ps
   unfolding after
@@ -68,8 +72,8 @@ module _ (i : Imbalance) (ps : List ℤ) where
     size-at = getD-map (size i) ps u 0 (pos 0) h
 
     quantity-at : getD (quantities i ps) u (pos 0) ≡ signed i (getD (settledSizes i ps) u 0)
-    unfolding quantities settledSizes
-    quantity-at = getD-map (signed i) (settledSizes i ps) u (pos 0) 0 (omega (arith, settled-long (sizes i ps) (total i), length-sizes))
+    unfolding quantities
+    quantity-at = getD-map (signed i) (settledSizes i ps) u (pos 0) 0 (omega (arith, length-settled))
 
     pub after-at : getD (after i ps) u (pos 0) ≡ getD ps u (pos 0) -ℤ getD (quantities i ps) u (pos 0)
     unfolding after

@@ -19,11 +19,13 @@ pub(crate) fn all_in(values: &[i64], range: &RangeInclusive<i64>) -> bool {
 }
 
 /// Cause 2: "record's user count not 1 to 128, hours not 0 to 24, or a zone closed
-/// with fewer than 24". Looks at both zones and answers the user count.
+/// with fewer than 24"; and whether a zone is closed not 0 or 1. Looks at both zones
+/// and answers the user count.
 pub(crate) fn record(day: &Day) -> Result<usize, u64> {
     let fits = limits::USERS.contains(&day.users)
         && all_in(&day.hours, &(0..=limits::HOURS))
-        && (0..2).all(|zone| !day.closed[zone] || day.hours[zone] == limits::HOURS);
+        && all_in(&day.closed, &(0..=1))
+        && (0..2).all(|zone| !day.is_closed(zone) || day.hours[zone] == limits::HOURS);
     require(fits, cause::RECORD)?;
     Ok(day.users as usize)
 }
@@ -53,7 +55,7 @@ pub(crate) fn table(day: &Day, table: &[i64]) -> Result<(), u64> {
         .chunks_exact(limits::PLACES)
         .enumerate()
         .all(|(zone, part)| {
-            let idle = day.closed[zone] || day.hours[zone] == 0;
+            let idle = day.is_closed(zone) || day.hours[zone] == 0;
             let (used, unused) = part.split_at(if idle { 0 } else { users });
             all_in(used, &limits::POSITION) && unused.iter().all(|&place| place == 0)
         });

@@ -18,7 +18,7 @@ pub fn close_zone(
     let users = check::record(&day)?;
     check::lengths(table, &[quantity.len(), money.len()], users)?;
     let zone = check::zone(zone)?;
-    check::require(!day.closed[zone], cause::CLOSED)?;
+    check::require(!day.is_closed(zone), cause::CLOSED)?;
     check::require(day.hours[zone] == limits::HOURS, cause::HOUR)?;
     check::table(&day, table)?;
     let prices_fit = check::all_in(&[excess_price, shortfall_price], &limits::PRICE);
@@ -38,6 +38,6 @@ pub fn close_zone(
     }
 
     let mut after = day;
-    after.closed[zone] = true;
+    after.closed[zone] = 1;
     Ok((after, sold, bought))
 }

@@ -10,8 +10,16 @@ pub struct Day {
     pub users: i64,
     /// Hours done in zone 0 (H) and zone 1 (L).
     pub hours: [i64; 2],
-    /// Whether zone 0 (H) and zone 1 (L) are closed.
-    pub closed: [bool; 2],
+    /// Whether zone 0 (H) and zone 1 (L) are closed: 1 or 0, as a number that can be
+    /// checked.
+    pub closed: [i64; 2],
+}
+
+impl Day {
+    /// Whether the zone is closed.
+    pub fn is_closed(&self, zone: usize) -> bool {
+        self.closed[zone] != 0
+    }
 }
 
 /// "Opening sets all 256 places to zero and answers a record with no hours done and
@@ -27,6 +35,6 @@ pub fn open(users: i64, table: &mut [i64]) -> Result<Day, u64> {
     Ok(Day {
         users,
         hours: [0; 2],
-        closed: [false; 2],
+        closed: [0; 2],
     })
 }

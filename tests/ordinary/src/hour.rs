@@ -86,7 +86,7 @@ pub fn settle_hour(
     ];
     check::lengths(table, &lists, users)?;
     let zone = check::zone(zone)?;
-    check::require(!day.closed[zone], cause::CLOSED)?;
+    check::require(!day.is_closed(zone), cause::CLOSED)?;
     check_hour(day.hours[zone], hour)?;
     check::table(&day, table)?;
     check_terms(&terms)?;

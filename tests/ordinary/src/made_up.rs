@@ -63,14 +63,14 @@ pub fn day(random: &mut Random, users: usize) -> (Day, Vec<i64>) {
     let mut day = Day {
         users: users as i64,
         hours: [0; 2],
-        closed: [false; 2],
+        closed: [0; 2],
     };
     let mut table = vec![0; limits::TABLE];
     for (zone, part) in table.chunks_exact_mut(limits::PLACES).enumerate() {
         let any = random.between(0, limits::HOURS);
         day.hours[zone] = random.pick([0, limits::HOURS, any, any]);
-        day.closed[zone] = day.hours[zone] == limits::HOURS && random.one_in(3);
-        if day.hours[zone] > 0 && !day.closed[zone] {
+        day.closed[zone] = i64::from(day.hours[zone] == limits::HOURS && random.one_in(3));
+        if day.hours[zone] > 0 && !day.is_closed(zone) {
             let scale = random.pick(SCALES);
             for place in part.iter_mut().take(users) {
                 *place = random.between(-scale, scale);

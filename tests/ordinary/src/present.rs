@@ -23,7 +23,7 @@ pub fn hour_causes(call: &Call) -> Vec<u64> {
         record(call),
         lengths(call, &lists),
         !zone_is_one(call),
-        of_zone(call, |zone| call.day.closed[zone]),
+        of_zone(call, |zone| call.day.is_closed(zone)),
         of_zone(call, |zone| {
             call.hour > limits::HOURS || call.hour.checked_sub(1) != Some(call.day.hours[zone])
         }),
@@ -44,7 +44,7 @@ pub fn closing_causes(call: &Call) -> Vec<u64> {
         record(call),
         lengths(call, &[call.quantity.len(), call.money.len()]),
         !zone_is_one(call),
-        of_zone(call, |zone| call.day.closed[zone]),
+        of_zone(call, |zone| call.day.is_closed(zone)),
         of_zone(call, |zone| call.day.hours[zone] < limits::HOURS),
         table(call),
         prices(call),
@@ -60,7 +60,7 @@ fn numbered(applies: &[bool]) -> Vec<u64> {
 fn record(call: &Call) -> bool {
     let zone_fits = |zone: usize| {
         let hours = call.day.hours[zone];
-        (0..=24).contains(&hours) && (hours == 24 || !call.day.closed[zone])
+        (0..=24).contains(&hours) && (0..=1).contains(&call.day.closed[zone]) && (hours == 24 || !call.day.is_closed(zone))
     };
     !limits::USERS.contains(&call.day.users) || !zone_fits(0) || !zone_fits(1)
 }
@@ -84,7 +84,7 @@ fn of_zone(call: &Call, applies: impl Fn(usize) -> bool) -> bool {
 fn table(call: &Call) -> bool {
     call.table.iter().take(limits::TABLE).enumerate().any(|(place, position)| {
         let (zone, user) = (place / limits::PLACES, (place % limits::PLACES) as i64);
-        let idle = call.day.closed[zone] || call.day.hours[zone] == 0;
+        let idle = call.day.is_closed(zone) || call.day.hours[zone] == 0;
         let unused = idle || user >= call.day.users;
         !limits::POSITION.contains(position) || (unused && *position != 0)
     })

@@ -44,7 +44,7 @@ const fn way(cause: u64, part: &'static str, spoil: fn(&mut Random, &mut Call)) 
 }
 
 /// Of the causes that hours and closings share.
-const SHARED: [Way; 21] = [
+const SHARED: [Way; 23] = [
     way(2, "users below 1", |r, call| call.day.users = r.pick([0, -1, -128, i64::MIN])),
     way(2, "users above 128", |r, call| call.day.users = r.pick([129, 256, 1 << 32, i64::MAX])),
     way(2, "hours of H below 0", |r, call| call.day.hours[0] = r.pick([-1, -24, i64::MIN])),
@@ -53,6 +53,8 @@ const SHARED: [Way; 21] = [
     way(2, "hours of L above 24", |r, call| call.day.hours[1] = r.pick([25, 256, i64::MAX])),
     way(2, "H closed too early", |r, call| close_early(r, call, 0)),
     way(2, "L closed too early", |r, call| close_early(r, call, 1)),
+    way(2, "mark of H neither 0 nor 1", |r, call| call.day.closed[0] = r.pick([2, 3, 256, -1, i64::MIN])),
+    way(2, "mark of L neither 0 nor 1", |r, call| call.day.closed[1] = r.pick([2, 3, 256, -1, i64::MIN])),
     way(3, "table too short", |r, call| call.table.truncate(r.pick([0, 1, 128, 255]))),
     way(3, "table too long", |r, call| call.table.resize(r.pick([257, 384, 512]), 0)),
     way(3, "quantity list", |r, call| resize(r, &mut call.quantity)),
@@ -164,7 +166,7 @@ fn fit(random: &mut Random, zone: i64, hours_fit: fn(i64) -> bool) -> Call {
     let users = random.pick([1, 2, 3, 64, 65, 127, 128, any]);
     let (day, table) = loop {
         let (day, table) = day(random, users);
-        if !day.closed[zone as usize] && hours_fit(day.hours[zone as usize]) {
+        if !day.is_closed(zone as usize) && hours_fit(day.hours[zone as usize]) {
             break (day, table);
         }
     };
@@ -207,7 +209,7 @@ fn resize<T: Clone + Default>(random: &mut Random, list: &mut Vec<T>) {
 
 fn close_early(random: &mut Random, call: &mut Call, zone: usize) {
     call.day.hours[zone] = random.pick([0, 1, 22, 23, 23]);
-    call.day.closed[zone] = true;
+    call.day.closed[zone] = 1;
 }
 
 /// The zone is closed; its places are as a rule zero, and so are then those of a zone
@@ -217,7 +219,7 @@ fn close(random: &mut Random, call: &mut Call) {
     for zone in 0..2 {
         if both || called(call) == Some(zone) {
             call.day.hours[zone] = limits::HOURS;
-            call.day.closed[zone] = true;
+            call.day.closed[zone] = 1;
             if !random.one_in(4) {
                 part(call, zone as i64).fill(0);
             }
@@ -228,9 +230,9 @@ fn close(random: &mut Random, call: &mut Call) {
 
 /// The zone has hours done and is open, so that its users may have positions.
 fn in_use(call: &mut Call, zone: usize) {
-    if call.day.hours[zone] == 0 || call.day.closed[zone] {
+    if call.day.hours[zone] == 0 || call.day.is_closed(zone) {
         call.day.hours[zone] = 1;
-        call.day.closed[zone] = false;
+        call.day.closed[zone] = 0;
         if called(call) == Some(zone) {
             call.hour = 2;
         }
@@ -260,7 +262,7 @@ fn beyond_users(random: &mut Random, call: &mut Call, zone: i64) {
 /// A zone with no hours done, or a closed one, has one place that is not zero.
 fn fill_idle(random: &mut Random, call: &mut Call, zone: i64, hours: i64) {
     call.day.hours[zone as usize] = hours;
-    call.day.closed[zone as usize] = hours == limits::HOURS;
+    call.day.closed[zone as usize] = i64::from(hours == limits::HOURS);
     if call.zone == zone {
         call.hour = hours + 1;
     }

@@ -1,9 +1,11 @@
 -- The wrapped call, and its answer for C. Assumes nothing.
-use mathlib.Core.Path.{ap, _∙_}
-use Rattle.gas_day_c.specs.Flat.{flatHour}
+use Rattle.gas_day_c.proofs.Calls.{hour-for-c}
 use borrow.Author.Needs.{needs}
 use Rattle.gas_day_c.proofs.gas_day_settle_hour.Statement.{statement}
 use Rattle.gas_day_c.proofs.gas_day_settle_hour.Tie as tie
+
+day-of-requires : tie.Need-day-of-requires
+day-of-requires c κs = search needs
 
 settle-hour-requires : tie.Need-settle-hour-requires
 settle-hour-requires c κs = search needs
@@ -23,15 +25,20 @@ same-length-3 c = search needs
 same-length-4 : tie.Need-same-length-4
 same-length-4 c = search needs
 
+abbrev called : tie.After-flat-hour → tie.After-settle-hour
+called c = c .before .before .before .before .before .before
+
+abbrev given : tie.After-settle-hour → tie.After-day-of
+given c = c .before .before .before .before .before
+
 returns : tie.Need-returns
-returns c =
-    let e = c .before .before .before .before .before .before .settle-hour .ensures in
-    record { answer = c .flat-hour .ensures ∙ ap flatHour (e .answer); table = e .table; quantity = e .quantity; money = e .money; scratch = e .scratch }
+returns c = hour-for-c (given (called c) .day-of .ensures) (called c .settle-hour .ensures) (c .flat-hour .ensures)
 
 pub gas-day-settle-hour-spec : {M : Type 1} → statement M
 gas-day-settle-hour-spec =
     tie.close
     (tie.spec
+    day-of-requires
     settle-hour-requires
     flat-hour-requires
     same-length

@@ -46,7 +46,7 @@ fn cause_1_opening() {
 
 #[test]
 fn cause_2_record() {
-    let changes: [fn(&mut Day); 10] = [
+    let changes: [fn(&mut Day); 12] = [
         |day| day.users = 0,
         |day| day.users = 129,
         |day| day.users = i64::MIN,
@@ -55,11 +55,13 @@ fn cause_2_record() {
         |day| day.hours[1] = -1,
         |day| day.hours[0] = i64::MAX,
         |day| day.hours[1] = i64::MIN,
-        |day| day.closed[0] = true,
+        |day| day.closed[0] = 1,
+        |day| day.closed[0] = 2,
+        |day| day.closed[1] = -1,
         |day| {
             *day = Day {
                 hours: [1, 23],
-                closed: [false, true],
+                closed: [0, 1],
                 ..*day
             }
         },
@@ -147,7 +149,7 @@ fn cause_7_table() {
         assert_eq!(close_after(change), Err(7));
     }
     // A closed zone, and a zone with no hours done, hold nothing.
-    assert_eq!(hour_after(|bench, _| bench.day.closed[1] = true), Err(7));
+    assert_eq!(hour_after(|bench, _| bench.day.closed[1] = 1), Err(7));
     assert_eq!(hour_after(|bench, _| bench.day.hours[1] = 0), Err(7));
     assert_eq!(close_after(|bench| bench.day.hours[0] = 0), Err(7));
     let mut bench = Bench::opened(2);

@@ -23,7 +23,7 @@ fn users_1_and_128() {
         let day = Day {
             users,
             hours: [0; 2],
-            closed: [false; 2],
+            closed: [0; 2],
         };
         assert_eq!(open(users, &mut table), Ok(day));
         assert_eq!(table, [0; 256]);

@@ -187,7 +187,7 @@ fn odd_calls() {
         match random.below(10) {
             0 => bench.day.users = odd_number(&mut random),
             1 => bench.day.hours[random.below(2)] = odd_number(&mut random),
-            2 => bench.day.closed[random.below(2)] ^= true,
+            2 => bench.day.closed[random.below(2)] ^= 1,
             3 => bench.table[random.below(256)] = odd_number(&mut random),
             4 => number = odd_number(&mut random),
             5 => called = odd_number(&mut random),

@@ -99,7 +99,7 @@ impl Bench {
             }
             Ok((day, sold, bought)) => {
                 let mut expected = old.day;
-                expected.closed[zone as usize] = true;
+                expected.closed[zone as usize] = 1;
                 assert_eq!(day, expected);
                 self.day = day;
                 assert_eq!(self.scratch, old.scratch);

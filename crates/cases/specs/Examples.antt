@@ -1,10 +1,11 @@
--- A whole day with refused calls in it, so that the theorems on histories speak of something; and the lower defaults. Assumes nothing.
+-- A whole day with refused calls in it, so that the theorems on histories speak of something; rule 4 among twelve users; and the lower defaults. Assumes nothing.
 use mathlib.Core.Path.{_≡_}
 use mathlib.Core.Bool.{true}
 use mathlib.Core.List.{List, [], _∷_, _++_, map}
 use Prim.Native.Nat.{ℕ, zero, suc}
 use lib.IntN.{pos, negℤ}
 use lib.ListN.{replicate}
+use Rattle.largest_remainder.specs.Rule.{settled}
 use Rattle.rules.specs.declared.OpenAnswer.the-variants.{Opened}
 use Rattle.rules.specs.Days.{newDay}
 use Rattle.rules.specs.Thresholds.{lowerDefault}
@@ -50,6 +51,10 @@ WholeDay =
     × (closes (pos 0) start wholeDay ≡ true)
     × (firstSum (pos 0) 0 start wholeDay ≡ pos 120)
     × (secondSum (pos 0) 0 start wholeDay ≡ pos 120)
+
+-- 31 kWh among twelve users: four are spare, which go to the fractions 35/61 (twice) and 34/61, and of two with 33/61 to the lower place; a user of size 0 gets nothing
+abbrev pub TwelveUsers : Type 0
+TwelveUsers = settled (7 ∷ 0 ∷ 3 ∷ 9 ∷ 9 ∷ 1 ∷ 0 ∷ 12 ∷ 5 ∷ 5 ∷ 2 ∷ 8 ∷ []) 31 ≡ 4 ∷ 0 ∷ 1 ∷ 5 ∷ 5 ∷ 0 ∷ 0 ∷ 6 ∷ 3 ∷ 2 ∷ 1 ∷ 4 ∷ []
 
 -- the lower defaults of January, April, July and December
 abbrev pub Defaults : Type 0

@@ -1,0 +1,26 @@
+-- A call that was given C's record as the rules hold it, and its answer for C. Assumes nothing.
+use mathlib.Core.Path.{_≡_, sym, ap, _∙_, subst}
+use mathlib.Core.List.{List}
+use Prim.Native.Nat.{ℕ}
+use lib.IntN.{ℤ}
+use Rattle.rules.specs.declared.Day.{Day}
+use Rattle.rules.specs.declared.HourAnswer.{HourAnswer}
+use Rattle.rules.specs.declared.ClosingAnswer.{ClosingAnswer}
+use Rattle.rules.specs.Hours.{Hour, Closing}
+use Rattle.rules.specs.Promises.{HourPromise, ClosingPromise}
+use Rattle.gas_day_c.specs.declared.day.DayC.{DayC}
+use Rattle.gas_day_c.specs.declared.HourC.{HourC}
+use Rattle.gas_day_c.specs.declared.ClosingC.{ClosingC}
+use Rattle.gas_day_c.specs.Records.{dayOf}
+use Rattle.gas_day_c.specs.Flat.{flatHour, HourForC, flatClosing, ClosingForC}
+
+module _ {d : DayC} {e : Day} {t : List ℤ} {t' q' m' : List ℤ} (is : e ≡ dayOf d) where
+  pub hour-for-c : {g : Hour} {s' : List ℕ} {a : HourAnswer} {r : HourC} → HourPromise e t g t' q' m' s' a → r ≡ flatHour d a → HourForC d t g t' q' m' s' r
+  hour-for-c {g} {s'} {a} p f =
+      let p = subst (λ (e : Day). HourPromise e t g t' q' m' s' a) is p in
+      record { answer = f ∙ ap (flatHour d) (p .answer); table = p .table; quantity = p .quantity; money = p .money; scratch = p .scratch }
+
+  pub closing-for-c : {g : Closing} {a : ClosingAnswer} {r : ClosingC} → ClosingPromise e t g t' q' m' a → r ≡ flatClosing d a → ClosingForC d t g t' q' m' r
+  closing-for-c {g} {a} p f =
+      let p = subst (λ (e : Day). ClosingPromise e t g t' q' m' a) is p in
+      record { answer = f ∙ ap (flatClosing d) (p .answer); table = p .table; quantity = p .quantity; money = p .money }

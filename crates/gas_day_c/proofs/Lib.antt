@@ -1,0 +1,3 @@
+-- Why the calls for C answer as their specifications say.
+mod Calls
+pub mod Guarantees
