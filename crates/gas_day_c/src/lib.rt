@@ -3,7 +3,6 @@
 ghost use mathlib.Core.Path.{_≡_};
 ghost use Rattle.rules.specs.Hours.{hourGiven, closingGiven};
 ghost use Rattle.rules.specs.Answers.{thresholdsAnswer};
-ghost use Rattle.gas_day_c.specs.Records.{dayOf};
 ghost use Rattle.gas_day_c.specs.Flat.{version, flatOpen, OpenForC, flatThresholds, flatDone, flatHour, HourForC, flatClosing, ClosingForC, flatFile, FileForC};
 
 pub mod day;

@@ -3,14 +3,12 @@ pub mod defaults;
 pub mod limits;
 
 // Of one zone: the hours done, and whether it is closed.
-#[repr(C)]
 pub struct ZoneDay {
     pub hours: i64,
     pub closed: bool,
 }
 
 // The day record, which goes in by value and comes back by value.
-#[repr(C)]
 pub struct Day {
     pub users: i64,
     pub h: ZoneDay,
@@ -26,7 +24,6 @@ impl Day {
 }
 
 // A refusal: the number of its cause, and the same record.
-#[repr(C)]
 pub struct Refusal {
     pub number: u64,
     pub day: Day,
@@ -41,7 +38,6 @@ pub enum OpenAnswer {
 
 // ---- default thresholds
 
-#[repr(C)]
 pub struct Thresholds {
     pub upper: i64,
     pub lower: i64,
@@ -72,7 +68,6 @@ pub enum Side {
 }
 
 // The causers: place 0 at the lowest bit of the first word; and the number of marks.
-#[repr(C)]
 pub struct Marks {
     pub first: u64,
     pub second: u64,
@@ -105,7 +100,6 @@ pub struct ClosingTerms {
 }
 
 // The record after a closing, and what was sold and bought, both as sizes.
-#[repr(C)]
 pub struct ClosingDone {
     pub day: Day,
     pub sold: i64,
