@@ -32,19 +32,19 @@ uint64_t gas_day_version(void);
 
 /* ---- limits */
 
-#define GAS_DAY_TABLE_PLACES 256 /* 128 for the H zone, then 128 for the L zone */
+#define GAS_DAY_TABLE_PLACES 256                   /* 128 for the H zone, then 128 for the L zone */
 #define GAS_DAY_ZONE_PLACES 128
-#define GAS_DAY_FILE_PLACES 128 /* of each of the reader's four lists */
+#define GAS_DAY_FILE_PLACES 128                    /* of each of the reader's four lists */
 #define GAS_DAY_USERS_LEAST 1
 #define GAS_DAY_USERS_MOST 128
 #define GAS_DAY_HOURS 24
-#define GAS_DAY_ENTRY_MOST INT64_C(50000000)      /* entry (EEA): 0 to this */
-#define GAS_DAY_EXIT_LEAST INT64_C(-50000000)     /* exit (XEA): this to 0 */
-#define GAS_DAY_TITLE_MOST INT64_C(50000000)      /* net title transfer (NCTTN): of either sign */
-#define GAS_DAY_POOLING_MOST INT64_C(100000000)   /* pooling transfer (IPT): of either sign */
-#define GAS_DAY_POSITION_MOST INT64_C(100000000)  /* a position, before or after settlement: of either sign */
+#define GAS_DAY_ENTRY_MOST INT64_C(50000000)       /* entry (EEA): 0 to this */
+#define GAS_DAY_EXIT_LEAST INT64_C(-50000000)      /* exit (XEA): this to 0 */
+#define GAS_DAY_TITLE_MOST INT64_C(50000000)       /* net title transfer (NCTTN): of either sign */
+#define GAS_DAY_POOLING_MOST INT64_C(100000000)    /* pooling transfer (IPT): of either sign */
+#define GAS_DAY_POSITION_MOST INT64_C(100000000)   /* a position, before or after settlement: of either sign */
 #define GAS_DAY_THRESHOLD_MOST INT64_C(1000000000) /* upper: 0 to this; lower: minus this to 0 */
-#define GAS_DAY_PRICE_MOST INT64_C(10000000)      /* of either sign */
+#define GAS_DAY_PRICE_MOST INT64_C(10000000)       /* of either sign */
 
 /* ---- causes: the first that applies, in the order of their numbers */
 

@@ -5,19 +5,10 @@ use ordinary::made_up::{self, Kind};
 use ordinary::random::Random;
 use ordinary::spoilt::Call;
 
-/// A call whose lists are as long as the users are many; what it is given is made up later.
-fn lent(day: ordinary::Day, table: Vec<i64>, random: &mut Random) -> Call {
-    let users = day.users as usize;
-    Call {
-        day,
-        table,
-        quantity: vec![9; users],
-        money: vec![9; users],
-        scratch: vec![9; users],
-        zone: 0,
-        hour: 1,
-        amounts: made_up::hour(random, users, Kind::Within, &[]),
-    }
+/// A call of hour 1 of the H zone; what it is given is made up later.
+fn first_hour(day: ordinary::Day, table: Vec<i64>, random: &mut Random) -> Call {
+    let amounts = made_up::hour(random, day.users as usize, Kind::Within, &[]);
+    Call::new(day, table, 0, 1, amounts)
 }
 
 /// For each place of the table: the amounts of the accepted hours, and the quantities of the accepted hours and closings.
@@ -63,7 +54,7 @@ pub fn days(run: &mut Run, seed: u64, rounds: usize) {
         run.at = format!("days, seed {seed}, round {round}");
         let users = random.pick([1, 2, 3, 7, 64, 65, 128, 1 + round % 128]);
         let (day, table) = run.opening(users as i64, 256).expect("opened");
-        let mut call = lent(day, table, &mut random);
+        let mut call = first_hour(day, table, &mut random);
         let mut sums = Sums::new();
         for _ in 0..72 {
             call.zone = random.between(0, 1);
@@ -108,7 +99,7 @@ pub fn odd_calls(run: &mut Run, seed: u64, rounds: usize) {
         run.at = format!("odd calls, seed {seed}, round {round}");
         let users = random.pick([1, 2, 3, 128]);
         let (day, table) = made_up::day(&mut random, users);
-        let mut call = lent(day, table, &mut random);
+        let mut call = first_hour(day, table, &mut random);
         call.zone = random.between(0, 1);
         call.hour = day.hours[call.zone as usize] + 1;
         let part = call.zone as usize * 128;

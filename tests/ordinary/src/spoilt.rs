@@ -29,6 +29,24 @@ pub struct Call {
     pub amounts: Hour,
 }
 
+impl Call {
+    /// A call whose lent lists and scratch have a place for each user, and hold
+    /// something else.
+    pub fn new(day: Day, table: Vec<i64>, zone: i64, hour: i64, amounts: Hour) -> Call {
+        let users = day.users as usize;
+        Call {
+            day,
+            table,
+            quantity: vec![9; users],
+            money: vec![9; users],
+            scratch: vec![9; users],
+            zone,
+            hour,
+            amounts,
+        }
+    }
+}
+
 /// A way to spoil a call.
 pub struct Way {
     /// The cause that it brings.
@@ -173,16 +191,7 @@ fn fit(random: &mut Random, zone: i64, hours_fit: fn(i64) -> bool) -> Call {
     let kind = random.pick(Kind::ALL);
     let start = zone as usize * limits::PLACES;
     let amounts = hour(random, users, kind, &table[start..start + limits::PLACES]);
-    Call {
-        day,
-        table,
-        quantity: vec![9; users],
-        money: vec![9; users],
-        scratch: vec![9; users],
-        zone,
-        hour: day.hours[zone as usize] + 1,
-        amounts,
-    }
+    Call::new(day, table, zone, day.hours[zone as usize] + 1, amounts)
 }
 
 /// The zone that is called, if it is one.
