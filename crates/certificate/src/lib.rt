@@ -123,7 +123,7 @@ pub fn cases_a_to_k_hold()
     ensures { λ _. ⌜ AllFigures ⌝ }
 {}
 
-// A day of 24 hours with refused calls in it, and its closing: what the theorems on lists speak of is there.
+// Document 01: "Hour 24 is settled like any other before this." A day of 24 hours with refused calls in it, and its closing: what the theorems on lists speak of is there.
 pub fn a_whole_day_can_be_run()
     ensures { λ _. ⌜ WholeDay ⌝ }
 {}
@@ -138,27 +138,27 @@ pub fn lower_defaults_are_negated()
     ensures { λ _. ⌜ Defaults ⌝ }
 {}
 
-// Case A's file, and the lists as the reader leaves them.
+// Document 01, of case A's file: the reader "fills the first as many as there are lines and touches no others".
 pub fn case_a_is_read()
     ensures { λ _. ⌜ CaseA ⌝ }
 {}
 
-// Small files of every kind, read or refused as document 01 and its readings in docs/DECISIONS.md say.
+// Document 01: "the first that applies is given". Small files of every kind, read or refused as it and its readings in docs/DECISIONS.md say.
 pub fn small_files_are_read_as_decided()
     ensures { λ _. ⌜ ExamplesComputed ⌝ }
 {}
 
-// The program's text: decimals up to the ends of 64 bits,
+// The program's text: "all plain decimals", up to the ends of 64 bits;
 pub fn decimals_are_shown()
     ensures { λ _. ⌜ DecimalsShown ⌝ }
 {}
 
-// case A's output, whole,
+// of case A, "Output, whole";
 pub fn case_a_is_shown()
     ensures { λ _. ⌜ CaseAShown ⌝ }
 {}
 
-// and "the one line `refused,` with the number and nothing more".
+// and of a refusal "the one line `refused,` with the number and nothing more".
 pub fn a_refusal_is_shown()
     ensures { λ _. ⌜ RefusalShown ⌝ }
 {}
