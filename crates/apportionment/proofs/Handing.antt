@@ -15,11 +15,12 @@ use borrow.Author.Tests.{ltb-true, ltb-false}
 use Rattle.integers.specs.Lists.{bit, sum, tabulate}
 use Rattle.integers.proofs.Counts.{bit-ltb, length-tabulate, getD-tabulate}
 use Rattle.largest_remainder.specs.Cuts.{same, IsCut, taken}
-use Rattle.apportionment.specs.Steps.{maxSum, raisedBy, CutAsks}
+use Rattle.apportionment.specs.Steps.{raisedBy, CutAsks}
 use Rattle.largest_remainder.proofs.Cuts.{above-mono, ltb-iff, taken-sum}
+use Rattle.rules.specs.Limits.{marketMost}
 
 -- the test by the top bit
-pub top-bit : (r at base : ℕ) → base + at ≡ 9223372036854775807 → r ≤ maxSum → (r + base) / 9223372036854775808 ≡ bit (ltb at r)
+pub top-bit : (r at base : ℕ) → base + at ≡ 9223372036854775807 → r ≤ marketMost → (r + base) / 9223372036854775808 ≡ bit (ltb at r)
 top-bit r at base e h = omega (arith, bit-ltb at r)
 
 pub bit-ltb-le : (at r : ℕ) → bit (ltb at r) ≤ 1
@@ -34,8 +35,10 @@ cut-begins rs n low top c h = go (ltb low top) refl
     go false e = absurd (omega (arith, c .enough, c .none, above-mono rs top low (ltb-false low top e)))
 
 -- the pass's own test at a place: by the ties that are left, and where there are none
-pub taken-left : (rs : List ℕ) (at ties left i : ℕ) → left ≡ ties - same (take i rs) at → taken rs at ties i ≡ (ltb at (getD rs i 0) || eqb at (getD rs i 0) && ltb 0 left)
-taken-left rs at ties left i e = ap (λ (b : Bool). ltb at (getD rs i 0) || eqb at (getD rs i 0) && b) (ltb-iff (same (take i rs) at) ties 0 left (omega arith) (omega arith))
+pub taken-left : (rs : List ℕ) (at ties left i : ℕ) → left ≡ ties - same (take i rs) at
+    → taken rs at ties i ≡ (ltb at (getD rs i 0) || eqb at (getD rs i 0) && ltb 0 left)
+taken-left rs at ties left i e =
+    ap (λ (b : Bool). ltb at (getD rs i 0) || eqb at (getD rs i 0) && b) (ltb-iff (same (take i rs) at) ties 0 left (omega arith) (omega arith))
 
 pub taken-above : (rs : List ℕ) (at i : ℕ) → bit (ltb at (getD rs i 0)) ≡ bit (taken rs at 0 i)
 taken-above rs at i = sym (ap bit (taken-left rs at 0 0 i (omega arith) ∙ none (ltb at (getD rs i 0)) (eqb at (getD rs i 0))))
@@ -88,7 +91,8 @@ module _ (rs : List ℕ) (n at ties : ℕ) (cut : IsCut rs n at ties) (i : ℕ) 
   -- when none is left, the places that follow stay as they were
   pub got-done : (old : List ℤ) → length rs ≡ length old → n ≤ got rs at ties i → drop i (raisedBy rs at ties old) ≡ drop i old
   got-done old l h =
-      ext-getD (pos 0) (drop i (raisedBy rs at ties old)) (drop i old) (simp (length-drop, raised-length rs at ties old)) (λ k b. rest k (simp (length-drop, raised-length rs at ties old) at b))
+      ext-getD (pos 0) (drop i (raisedBy rs at ties old)) (drop i old) (simp (length-drop, raised-length rs at ties old))
+      (λ k b. rest k (simp (length-drop, raised-length rs at ties old) at b))
     where
       rest : (k : ℕ) → k < length old - i → getD (drop i (raisedBy rs at ties old)) k (pos 0) ≡ getD (drop i old) k (pos 0)
       rest k b =

@@ -13,13 +13,14 @@ use Rattle.integers.proofs.Counts.{bit-ltb, count-step, sum-step, sum-take-le, 
 use Rattle.integers.proofs.Passes.{Written, written-none, written-elem, written-next, written-all}
 use Rattle.largest_remainder.specs.Rule.{whole, fraction}
 use Rattle.largest_remainder.specs.Cuts.{above}
-use Rattle.apportionment.specs.Steps.{maxSum, Input, Shared}
+use Rattle.apportionment.specs.Steps.{Input, Shared}
 use Rattle.largest_remainder.proofs.Cuts.{above-mono}
 use Rattle.largest_remainder.proofs.Parts.{wholes-le, fraction-less}
+use Rattle.rules.specs.Limits.{positionMost, marketMost}
 
 -- the sum of the sizes is within its bound
-pub sum-fits : (sizes : List ℕ) (total : ℕ) → Input sizes total → sum sizes ≤ maxSum
-sum-fits sizes total n = omega (arith, sum-le 100000000 sizes (n .small), n .users)
+pub sum-fits : (sizes : List ℕ) (total : ℕ) → Input sizes total → sum sizes ≤ marketMost
+sum-fits sizes total n = omega (arith, sum-le positionMost sizes (n .small), n .users)
 
 pub no-share : (total size s : ℕ) → size ≡ 0 → (0 ≡ total * size / s) × (0 ≡ total * size % s)
 no-share total size s e = rw (e, mul-zero) (sym (zero-div s), sym (zero-mod s))
@@ -32,7 +33,7 @@ pub record Sharing (sizes : List ℕ) (total : ℕ) (old : List ℤ) (rs : List 
   pub sum : given ≡ sum (take i (map (whole sizes total) sizes))
   pub enough : above (take i (map (fraction sizes total) sizes)) 0 ≤ above (take i (map (fraction sizes total) sizes)) low
   pub none : above (take i (map (fraction sizes total) sizes)) top ≡ 0
-  pub small : top ≤ maxSum
+  pub small : top ≤ marketMost
 
 -- the lists that the pass writes are as long as the sizes
 module _ (sizes : List ℕ) (total : ℕ) where
@@ -65,10 +66,10 @@ module _ {sizes : List ℕ} {total : ℕ} {old : List ℤ} {rs : List ℕ} {out 
 
     -- what the division at i asks and gives
     module _ (divisor : ℕ) (e : divisor ≡ sum sizes) where
-      pub sharing-asks : (0 < divisor) × (total * getD rs i 0 ≤ maxSum * 100000000)
+      pub sharing-asks : (0 < divisor) × (total * getD rs i 0 ≤ marketMost * positionMost)
       sharing-asks = (
         omega (arith, n .some),
-        rw here (mul-le-mul {n₂ = maxSum} {m₂ = 100000000} (omega (arith, n .within, sum-fits sizes total n)) (n .small i)),
+        rw here (mul-le-mul {n₂ = marketMost} {m₂ = positionMost} (omega (arith, n .within, sum-fits sizes total n)) (n .small i)),
       )
 
       pub sharing-whole : (w : ℕ) → w ≡ total * getD rs i 0 / divisor → w ≡ whole sizes total (getD sizes i 0)
@@ -79,7 +80,7 @@ module _ {sizes : List ℕ} {total : ℕ} {old : List ℤ} {rs : List ℕ} {out 
       unfolding fraction
       sharing-fraction f q = q ∙ rw (here, e) refl
 
-    pub sharing-given : (w : ℕ) → w ≡ whole sizes total (getD sizes i 0) → given + w ≤ maxSum
+    pub sharing-given : (w : ℕ) → w ≡ whole sizes total (getD sizes i 0) → given + w ≤ marketMost
     sharing-given w e =
         let ws = map (whole sizes total) sizes in
         omega (

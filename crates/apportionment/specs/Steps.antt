@@ -7,15 +7,12 @@ use lib.ListN.{length, getD, replicate}
 use Rattle.integers.specs.Lists.{bit, sum, tabulate}
 use Rattle.largest_remainder.specs.Rule.{whole, fraction, settled}
 use Rattle.largest_remainder.specs.Cuts.{above, IsCut, taken}
+use Rattle.rules.specs.Limits.{usersMost, positionMost, marketMost}
 
--- document 01's bounds: 128 users, a position of at most 100,000,000, so a sum of at most
-abbrev pub maxSum : ℕ
-maxSum = 12_800_000_000
-
--- what the code asks of the sizes and the total
+-- what the code asks of the sizes and the total: the sizes are those of positions, so that their sum is at most that of a market
 pub record Input (sizes : List ℕ) (total : ℕ) : Type 0 where
-  pub users : length sizes ≤ 128
-  pub small : (place : ℕ) → getD sizes place 0 ≤ 100_000_000
+  pub users : length sizes ≤ usersMost
+  pub small : (place : ℕ) → getD sizes place 0 ≤ positionMost
   pub some : 0 < sum sizes
   pub within : total ≤ sum sizes
 
@@ -30,21 +27,21 @@ raisedBy rs at ties old = tabulate (λ place. getD old place (pos 0) +ℤ pos (b
 
 -- numbers that stay within the bound of the sums
 pub record Bounded (rs : List ℕ) : Type 0 where
-  pub at : (place : ℕ) → getD rs place 0 ≤ maxSum
+  pub at : (place : ℕ) → getD rs place 0 ≤ marketMost
 
 -- a cut of n lies between `low` and `top`
 pub record CutAsks (rs : List ℕ) (n low top : ℕ) : Type 0 where
   pub bounded : Bounded rs
   pub enough : n ≤ above rs low
   pub none : above rs top ≡ 0
-  pub small : top ≤ maxSum
+  pub small : top ≤ marketMost
 
 -- what handing out n units by a cut asks
 pub record HandAsks (rs : List ℕ) (at ties n : ℕ) (old : List ℤ) : Type 0 where
   pub long : length rs ≡ length old
-  pub small : (place : ℕ) → natAbs (getD old place (pos 0)) ≤ maxSum
+  pub small : (place : ℕ) → natAbs (getD old place (pos 0)) ≤ marketMost
   pub cut : IsCut rs n at ties
-  pub top : at ≤ maxSum
+  pub top : at ≤ marketMost
   pub bounded : Bounded rs
 
 -- what the pass over the sizes leaves: the remainders, the whole units and their sum, and a number below and one above all remainders but 0
@@ -54,4 +51,4 @@ pub record Shared (sizes : List ℕ) (total : ℕ) (rs : List ℕ) (out : List �
   pub sum : given ≡ sum (map (whole sizes total) sizes)
   pub enough : above rs 0 ≤ above rs low
   pub none : above rs top ≡ 0
-  pub small : top ≤ maxSum
+  pub small : top ≤ marketMost

@@ -7,7 +7,8 @@ ghost use lib.IntN.{pos, natAbs, _+ℤ_};
 ghost use lib.ListN.{length};
 ghost use Rattle.integers.specs.Lists.{bit, sum};
 ghost use Rattle.largest_remainder.specs.Cuts.{above, IsCut};
-ghost use Rattle.apportionment.specs.Steps.{maxSum, Input, Apportioned, raisedBy, Bounded, CutAsks, HandAsks, Shared};
+ghost use Rattle.rules.specs.Limits.{positionMost, marketMost};
+ghost use Rattle.apportionment.specs.Steps.{Input, Apportioned, raisedBy, Bounded, CutAsks, HandAsks, Shared};
 
 const TOP_BIT: u64 = 0x8000_0000_0000_0000;
 
@@ -21,7 +22,7 @@ struct Share {
 
 // One division for both, and none for a user that did not cause.
 fn share_of(total: u64, size: u64, sum: u64) -> Share
-    requires { ⌜ (0 < sum) × (total * size ≤ maxSum * 100000000) ⌝ }
+    requires { ⌜ (0 < sum) × (total * size ≤ marketMost * positionMost) ⌝ }
     ensures { λ r. ⌜ (r .whole ≡ total * size / sum) × (r .fraction ≡ total * size % sum) ⌝ }
 {
     if size == 0 {
@@ -55,7 +56,7 @@ fn below(low: u64, remainder: u64) -> u64
 }
 
 fn sum_of(sizes: &[u64]) -> u64
-    requires { ⌜ sum (now sizes) ≤ maxSum ⌝ }
+    requires { ⌜ sum (now sizes) ≤ marketMost ⌝ }
     ensures { λ r. ⌜ r ≡ sum (now (sizes .entry)) ⌝ }
 {
     let mut added: u64 = 0;
@@ -103,7 +104,7 @@ fn share_all(sizes: &mut [u64], total: u64, sum_of_sizes: u64, out: &mut [i64]) 
 
 // How many remainders are above `at`: by the top bit of a sum, without a branch.
 fn count_above(remainders: &[u64], at: u64) -> u64
-    requires { ⌜ (at ≤ maxSum) × Bounded (now remainders) ⌝ }
+    requires { ⌜ (at ≤ marketMost) × Bounded (now remainders) ⌝ }
     ensures { λ r. ⌜ r ≡ above (now (remainders .entry)) at ⌝ }
 {
     let base: u64 = TOP_BIT - 1 - at;
@@ -125,7 +126,7 @@ struct Cut {
 // By bisection between `low`, above which there are enough, and `top`, above which there is none.
 fn find_cut(remainders: &[u64], spare: u64, low: u64, top: u64) -> Cut
     requires { ⌜ CutAsks (now remainders) spare low top ⌝ }
-    ensures { λ r. ⌜ IsCut (now (remainders .entry)) spare (r .at) (r .ties) × (r .at ≤ maxSum) ⌝ }
+    ensures { λ r. ⌜ IsCut (now (remainders .entry)) spare (r .at) (r .ties) × (r .at ≤ marketMost) ⌝ }
 {
     if spare == 0 {
         return Cut { at: top, ties: 0 };
@@ -181,7 +182,7 @@ fn ties_after(remainder: u64, at: u64, ties: u64) -> u64
 }
 
 fn plus(x: i64, unit: u64) -> i64
-    requires { ⌜ (natAbs x ≤ maxSum) × (unit ≤ 1) ⌝ }
+    requires { ⌜ (natAbs x ≤ marketMost) × (unit ≤ 1) ⌝ }
     ensures { λ r. ⌜ r ≡ x +ℤ pos unit ⌝ }
 {
     x + unit as i64

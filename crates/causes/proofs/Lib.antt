@@ -1,4 +1,2 @@
 -- Why the stages are the causes of the rules, and why each stage may count on those before it. Assumes nothing.
-pub mod Records
-mod Tables
 mod Stages

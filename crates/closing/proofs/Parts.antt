@@ -10,7 +10,7 @@ use Rattle.integers.specs.Ranges.{isZero}
 use Rattle.integers.specs.Lists.{sumℤ, AtMost}
 use Rattle.integers.proofs.Passes.{every-take}
 use Rattle.rules.specs.declared.ClosingTerms.{ClosingTerms}
-use Rattle.rules.specs.Limits.{positionFit}
+use Rattle.rules.specs.Limits.{usersMost, positionMost, positionFit}
 use Rattle.rules.specs.Market.{moneys, sold, bought}
 use Rattle.rules.proofs.Small.{positions-small}
 use Rattle.rules.proofs.Zones.{part-h, part-l, with-h, with-l}
@@ -23,13 +23,14 @@ module _ {p : List ℤ} {k : ClosingTerms} {q m : List ℤ} (a : Asks p k q m) (
   copy-asked = simp length-take (omega (arith, a .room))
 
   module _ (w : List ℤ) (ew : w ≡ take n p) where
-    pub quantity-asked : (length w ≤ 128) × AtMost 100_000_000 w
+    pub quantity-asked : (length w ≤ usersMost) × AtMost positionMost w
     quantity-asked = rw ew (simp length-take (omega (arith, a .few)), positions-small _ (every-take positionFit n p (a .positions)))
 
     pub money-asked : length m ≡ length w
     money-asked = a .moneys ∙ copy-asked ∙ sym (ap length ew)
 
-    pub part-left : (p' m' : List ℤ) (s b : ℤ) → m' ≡ moneys (k .«excess_price») (k .«shortfall_price») w → s ≡ sumℤ (map (tradedOf true) w) → b ≡ sumℤ (map (tradedOf false) w)
+    pub part-left : (p' m' : List ℤ) (s b : ℤ) → m' ≡ moneys (k .«excess_price») (k .«shortfall_price») w
+        → s ≡ sumℤ (map (tradedOf true) w) → b ≡ sumℤ (map (tradedOf false) w)
         → p' ≡ replicate (length p) (pos 0) → PartLeaves (length q) p p' k w m' s b
     part-left p' m' s b em es eb ep = record {
       lists = record {
@@ -49,8 +50,12 @@ module _ {tb : List ℤ} {k : ClosingTerms} {q m : List ℤ} (a : TableAsks tb k
       let e : p' ≡ replicate 128 (pos 0) = v .places ∙ ap (λ (j : ℕ). replicate j (pos 0)) l in
       record { lists = rw (part-h (k .zone) tb z) (v .lists); table = rw (with-h (k .zone) tb _ z) (ap (λ (y : List ℤ). y ++ drop 128 tb) e) }
 
-  pub left-l : isZero (k .zone) ≡ false → PartLeaves n (take 128 (drop 128 tb)) p' k q' m' s b → TableLeaves n tb (take 128 tb ++ (p' ++ drop 128 (drop 128 tb))) k q' m' s b
+  pub left-l : isZero (k .zone) ≡ false → PartLeaves n (take 128 (drop 128 tb)) p' k q' m' s b
+      → TableLeaves n tb (take 128 tb ++ (p' ++ drop 128 (drop 128 tb))) k q' m' s b
   left-l z v =
       let l : length (take 128 (drop 128 tb)) ≡ 128 = simp (length-take, length-drop) (omega (arith, a .long)) in
       let e : p' ≡ replicate 128 (pos 0) = v .places ∙ ap (λ (j : ℕ). replicate j (pos 0)) l in
-      record { lists = rw (part-l (k .zone) tb z) (v .lists); table = rw (with-l (k .zone) tb _ z) (ap (λ (y : List ℤ). take 128 tb ++ (y ++ drop 128 (drop 128 tb))) e) }
+      record {
+        lists = rw (part-l (k .zone) tb z) (v .lists);
+        table = rw (with-l (k .zone) tb _ z) (ap (λ (y : List ℤ). take 128 tb ++ (y ++ drop 128 (drop 128 tb))) e);
+      }

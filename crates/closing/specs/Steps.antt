@@ -8,7 +8,7 @@ use lib.ListN.{length, take, replicate}
 use lib.Signed.{ltZ}
 use Rattle.integers.specs.Lists.{every}
 use Rattle.rules.specs.declared.ClosingTerms.{ClosingTerms}
-use Rattle.rules.specs.Limits.{positionFit}
+use Rattle.rules.specs.Limits.{usersMost, positionFit}
 use Rattle.rules.specs.Days.{part, withPart}
 use Rattle.rules.specs.Market.{moneys, sold, bought}
 use Rattle.rules.specs.Causes.{pricesFit}
@@ -25,7 +25,7 @@ tradedOf sale q = cond sale (soldOf q) (boughtOf q)
 
 -- of a zone's part p, with a place for each user
 pub record Asks (p : List ℤ) (k : ClosingTerms) (q m : List ℤ) : Type 0 where
-  pub few : length q ≤ 128
+  pub few : length q ≤ usersMost
   pub room : length q ≤ length p
   pub moneys : length m ≡ length q
   pub positions : every positionFit p ≡ true

@@ -5,6 +5,7 @@ ghost use Prim.Native.Nat.{_≤_};
 ghost use lib.IntN.{natAbs};
 ghost use lib.ListN.{length};
 ghost use Rattle.integers.specs.Lists.{sumℤ, AtMost};
+ghost use Rattle.rules.specs.Limits.{usersMost, positionMost, priceMost};
 ghost use Rattle.rules.specs.Market.{moneyOf, moneys};
 ghost use Rattle.closing.specs.Steps.{soldOf, boughtOf, tradedOf, Asks, PartLeaves, TableAsks, TableLeaves};
 use rules::ClosingTerms;
@@ -19,7 +20,10 @@ pub struct Sums {
 
 // Rule 6.
 fn money_of(excess_price: i64, shortfall_price: i64, quantity: i64) -> i64
-    requires { ⌜ (natAbs «excess_price» ≤ 10_000_000) × (natAbs «shortfall_price» ≤ 10_000_000) × (natAbs quantity ≤ 100_000_000) ⌝ }
+    requires { ⌜
+        (natAbs «excess_price» ≤ priceMost) × (natAbs «shortfall_price» ≤ priceMost)
+        × (natAbs quantity ≤ positionMost)
+        ⌝ }
     ensures { λ r. ⌜ r ≡ moneyOf «excess_price» «shortfall_price» quantity ⌝ }
 {
     if quantity > 0 {
@@ -36,7 +40,7 @@ fn sold_of(quantity: i64) -> i64
 }
 
 fn bought_of(quantity: i64) -> i64
-    requires { ⌜ natAbs quantity ≤ 100_000_000 ⌝ }
+    requires { ⌜ natAbs quantity ≤ positionMost ⌝ }
     ensures { λ r. ⌜ r ≡ boughtOf quantity ⌝ }
 {
     if quantity < 0 {
@@ -48,7 +52,7 @@ fn bought_of(quantity: i64) -> i64
 
 // A sale's size, or a purchase's; 0 of the other kind.
 fn traded_of(sale: bool, quantity: i64) -> i64
-    requires { ⌜ natAbs quantity ≤ 100_000_000 ⌝ }
+    requires { ⌜ natAbs quantity ≤ positionMost ⌝ }
     ensures { λ r. ⌜ r ≡ tradedOf sale quantity ⌝ }
 {
     if sale {
@@ -72,7 +76,10 @@ fn copy_all(positions: &[i64], quantity: &mut [i64])
 }
 
 fn money_all(excess_price: i64, shortfall_price: i64, quantity: &[i64], money: &mut [i64])
-    requires { ⌜ (natAbs «excess_price» ≤ 10_000_000) × (natAbs «shortfall_price» ≤ 10_000_000) × (length (now money) ≡ length (now quantity)) × AtMost 100_000_000 (now quantity) ⌝ }
+    requires { ⌜
+        (natAbs «excess_price» ≤ priceMost) × (natAbs «shortfall_price» ≤ priceMost)
+        × (length (now money) ≡ length (now quantity)) × AtMost positionMost (now quantity)
+        ⌝ }
     ensures { λ _. ⌜ now (money .exit) ≡ moneys «excess_price» «shortfall_price» (now (quantity .entry)) ⌝ }
 {
     let mut i: usize = 0;
@@ -84,7 +91,7 @@ fn money_all(excess_price: i64, shortfall_price: i64, quantity: &[i64], money: &
 
 // The sum of the sales, or of the purchases, as sizes.
 fn traded_all(sale: bool, quantity: &[i64]) -> i64
-    requires { ⌜ (length (now quantity) ≤ 128) × AtMost 100_000_000 (now quantity) ⌝ }
+    requires { ⌜ (length (now quantity) ≤ usersMost) × AtMost positionMost (now quantity) ⌝ }
     ensures { λ r. ⌜ r ≡ sumℤ (map (tradedOf sale) (now (quantity .entry))) ⌝ }
 {
     let mut sum: i64 = 0;
@@ -107,7 +114,10 @@ fn close_part(
     money: &mut [i64],
 ) -> Sums
     requires { ⌜ Asks (now part) terms (now quantity) (now money) ⌝ }
-    ensures { λ r. ⌜ PartLeaves (length (now (quantity .entry))) (now (part .entry)) (now (part .exit)) terms (now (quantity .exit)) (now (money .exit)) (r .sold) (r .bought) ⌝ }
+    ensures { λ r. ⌜
+        PartLeaves (length (now (quantity .entry))) (now (part .entry)) (now (part .exit)) terms
+        (now (quantity .exit)) (now (money .exit)) (r .sold) (r .bought)
+        ⌝ }
 {
     let n = quantity.len();
     copy_all(&part[0..n], quantity);
@@ -126,7 +136,10 @@ pub fn close_table(
     money: &mut [i64],
 ) -> Sums
     requires { ⌜ TableAsks (now table) terms (now quantity) (now money) ⌝ }
-    ensures { λ r. ⌜ TableLeaves (length (now (quantity .entry))) (now (table .entry)) (now (table .exit)) terms (now (quantity .exit)) (now (money .exit)) (r .sold) (r .bought) ⌝ }
+    ensures { λ r. ⌜
+        TableLeaves (length (now (quantity .entry))) (now (table .entry)) (now (table .exit)) terms
+        (now (quantity .exit)) (now (money .exit)) (r .sold) (r .bought)
+        ⌝ }
 {
     if integers::is_zero(terms.zone) {
         close_part(&mut table[0..128], terms, quantity, money)

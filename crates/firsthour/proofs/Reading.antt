@@ -7,6 +7,7 @@ use lib.IntN.{ℤ, pos}
 use lib.ListN.{length, take, drop, replicate, length-map, length-replicate, replicate-append-replicate}
 use lib.Seq.{take-at, length-take-le}
 use Rattle.integers.specs.Ranges.{natural}
+use Rattle.rules.specs.Limits.{usersMost}
 use Rattle.allocation_file.specs.declared.FileRead.{FileRead}
 use Rattle.allocation_file.specs.declared.FileAnswer.the-variants.{Refused, Read}
 use Rattle.allocation_file.specs.declared.row.Row.{Row}
@@ -16,17 +17,17 @@ use Rattle.report.specs.Text.{refusedLine}
 use Rattle.firsthour.specs.Printed.{opened, openedNew, ofFile}
 
 -- ---- the first n of 128 zeros are n zeros
-zeros-take : {A : Type 0} (z : A) (n : ℕ) → n ≤ 128 → take n (replicate 128 z) ≡ replicate n z
+zeros-take : {A : Type 0} (z : A) (n : ℕ) → n ≤ usersMost → take n (replicate 128 z) ≡ replicate n z
 zeros-take z n h =
     let e : n + (128 - n) ≡ 128 = omega arith in
     ap (λ (k : ℕ). take n (replicate k z)) (sym e)
     ∙ ap (take n) (sym (replicate-append-replicate n (128 - n) z))
     ∙ take-at (replicate n z) (replicate (128 - n) z) n (length-replicate n z)
 
-pub length-zeros : {A : Type 0} (z : A) (n : ℕ) → n ≤ 128 → length (take n (replicate 128 z)) ≡ n
+pub length-zeros : {A : Type 0} (z : A) (n : ℕ) → n ≤ usersMost → length (take n (replicate 128 z)) ≡ n
 length-zeros z n h = ap length (zeros-take z n h) ∙ length-replicate n z
 
-pub opened-new : (h z : ℤ) (e x t i : List ℤ) (n : ℕ) → n ≤ 128 → n ≤ length e
+pub opened-new : (h z : ℤ) (e x t i : List ℤ) (n : ℕ) → n ≤ usersMost → n ≤ length e
     → opened h z (replicate 256 (pos 0)) (take n e) (take n x) (take n t) (take n i) (take n (replicate 128 (pos 0))) (take n (replicate 128 (pos 0))) (take n (replicate 128 0))
     ≡ openedNew h z (take n e) (take n x) (take n t) (take n i)
 unfolding openedNew
@@ -51,7 +52,7 @@ file-read (read h z rows) a b c d {f} {n} e l ea eb ec ed =
     let m : n ≡ length rows = l ∙ ap (λ (g : FileRead). natural (g .lines)) q in
     rw (q, m, ea, eb, ec, ed, rows-taken (λ r. r .entry) rows a, rows-taken (λ r. r .exit) rows b, rows-taken (λ r. r .title) rows c, rows-taken (λ r. r .pooling) rows d)
 
-pub file-few : (s : List ℕ) (a b c d : List ℤ) {f : FileRead} {n : ℕ} → Read f ≡ answerOf (outcome s a b c d) → n ≡ natural (f .lines) → n ≤ 128
+pub file-few : (s : List ℕ) (a b c d : List ℤ) {f : FileRead} {n : ℕ} → Read f ≡ answerOf (outcome s a b c d) → n ≡ natural (f .lines) → n ≤ usersMost
 unfolding natural
 file-few s a b c d {f} {n} e l =
     let k = accepted-obeys s a b c d f (sym e) in

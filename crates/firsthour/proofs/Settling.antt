@@ -10,6 +10,7 @@ use lib.ListN.{length, getD, take, drop, length-take, length-drop}
 use lib.Seq.{ext-getD, take-take}
 use Rattle.integers.specs.Ranges.{isZero}
 use Rattle.integers.proofs.Linear.{lin2, diffs, linear}
+use Rattle.rules.specs.Limits.{usersMost}
 use Rattle.rules.specs.declared.Day.{Day}
 use Rattle.rules.specs.declared.HourAnswer.{HourAnswer}
 use Rattle.rules.specs.Days.{users, firstPlace, part}
@@ -38,7 +39,7 @@ first-few zone = go (isZero zone) refl
     go true e = rw e (lit≤ tt)
     go false e = rw e (lit≤ tt)
 
-pub after-is : (zone : ℤ) (table : List ℤ) (start n : ℕ) → start ≡ firstPlace zone → n ≤ 128 → take (start + n - start) (drop start table) ≡ afters zone n table
+pub after-is : (zone : ℤ) (table : List ℤ) (start n : ℕ) → start ≡ firstPlace zone → n ≤ usersMost → take (start + n - start) (drop start table) ≡ afters zone n table
 unfolding afters part
 after-is zone table start n e h =
     let k : start + n - start ≡ n = omega arith in

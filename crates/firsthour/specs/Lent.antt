@@ -5,6 +5,7 @@ use Prim.Native.Nat.{ℕ, _≤_}
 use lib.IntN.{ℤ, pos, _+ℤ_}
 use lib.ListN.{length, getD, take}
 use Rattle.integers.specs.Lists.{tabulate, AtMost}
+use Rattle.rules.specs.Limits.{usersMost, positionMost}
 use Rattle.rules.specs.Days.{part}
 use Rattle.report.specs.Text.{hourText}
 
@@ -16,7 +17,7 @@ sums xs ys = tabulate (λ k. getD xs k (pos 0) +ℤ getD ys k (pos 0)) (length x
 pub record Adds (xs ys out : List ℤ) : Type 0 where
   pub seconds : length ys ≡ length xs
   pub outs : length out ≡ length xs
-  pub small : AtMost 100_000_000 (sums xs ys)
+  pub small : AtMost positionMost (sums xs ys)
 
 -- the positions after settlement of the first n users of a zone
 unfoldable pub afters : ℤ → ℕ → List ℤ → List ℤ
@@ -32,21 +33,21 @@ settledText zone table quantity money =
 pub record Settled (out : List ℕ) (zone : ℤ) (table quantity money before : List ℤ) : Type 0 where
   pub room : 13_592 ≤ length out
   pub places : length table ≡ 256
-  pub users : length quantity ≤ 128
+  pub users : length quantity ≤ usersMost
   pub moneys : length money ≡ length quantity
   pub befores : length before ≡ length quantity
-  pub small : AtMost 100_000_000 (sums quantity (afters zone (length quantity) table))
+  pub small : AtMost positionMost (sums quantity (afters zone (length quantity) table))
 
 -- room for the longest text, and a list of positions before settlement as long as the users' lists
 pub record TextRoom (out : List ℕ) (before entry : List ℤ) : Type 0 where
   pub room : 13_592 ≤ length out
   pub befores : length before ≡ length entry
-  pub users : length entry ≤ 128
+  pub users : length entry ≤ usersMost
 
 -- room for the longest text, and four lists with a place for each of at most 128 users
 pub record ReadLists (out : List ℕ) (n : ℕ) (entries exits titles poolings : List ℤ) : Type 0 where
   pub room : 13_592 ≤ length out
-  pub users : n ≤ 128
+  pub users : n ≤ usersMost
   pub entry : n ≤ length entries
   pub exit : n ≤ length exits
   pub title : n ≤ length titles

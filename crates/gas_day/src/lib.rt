@@ -1,12 +1,7 @@
 // The public calls of the Gas Day. Each accepts every input, gives the first cause of document 01 that applies, else the answer, and writes nothing before every
 // cause has been looked at. The contracts set the answer and every lent area equal to the definitions of the crate `rules`.
 ghost use mathlib.Core.Path.{_≡_};
-ghost use mathlib.Core.Bool.{true};
-ghost use Prim.Native.Nat.{_≤_};
-ghost use lib.IntN.{natAbs};
-ghost use Rattle.rules.specs.Days.{newDay, dayAfterHour, dayAfterClosing, hourMore, closedNow};
 ghost use Rattle.rules.specs.Hours.{hourGiven, closingGiven};
-ghost use Rattle.rules.specs.Causes.{dayFit};
 ghost use Rattle.rules.specs.Answers.{thresholdsAnswer};
 ghost use Rattle.rules.specs.Promises.{OpenPromise, HourPromise, ClosingPromise};
 use rules::ClosingAnswer;
@@ -20,89 +15,6 @@ use rules::OpenAnswer;
 use rules::Refusal;
 use rules::Thresholds;
 use rules::ThresholdsAnswer;
-use rules::ZoneDay;
-
-// ---- the record
-
-fn new_day(users: i64) -> Day
-    ensures { λ r. ⌜ r ≡ newDay users ⌝ }
-{
-    let none = ZoneDay {
-        hours: 0,
-        closed: false,
-    };
-    Day {
-        users,
-        h: none,
-        l: none,
-    }
-}
-
-fn hour_more(zone_day: ZoneDay) -> ZoneDay
-    requires { ⌜ natAbs («zone_day» .hours) ≤ 24 ⌝ }
-    ensures { λ r. ⌜ r ≡ hourMore «zone_day» ⌝ }
-{
-    ZoneDay {
-        hours: zone_day.hours + 1,
-        closed: zone_day.closed,
-    }
-}
-
-fn day_after_hour(zone: i64, day: Day) -> Day
-    requires { ⌜ dayFit day ≡ true ⌝ }
-    ensures { λ r. ⌜ r ≡ dayAfterHour zone day ⌝ }
-{
-    let h = day.h;
-    let l = day.l;
-    if integers::is_zero(zone) {
-        let more = hour_more(h);
-        Day {
-            users: day.users,
-            h: more,
-            l,
-        }
-    } else {
-        let more = hour_more(l);
-        Day {
-            users: day.users,
-            h,
-            l: more,
-        }
-    }
-}
-
-fn closed_now(zone_day: ZoneDay) -> ZoneDay
-    ensures { λ r. ⌜ r ≡ closedNow «zone_day» ⌝ }
-{
-    ZoneDay {
-        hours: zone_day.hours,
-        closed: true,
-    }
-}
-
-fn day_after_closing(zone: i64, day: Day) -> Day
-    ensures { λ r. ⌜ r ≡ dayAfterClosing zone day ⌝ }
-{
-    let h = day.h;
-    let l = day.l;
-    if integers::is_zero(zone) {
-        let closed = closed_now(h);
-        Day {
-            users: day.users,
-            h: closed,
-            l,
-        }
-    } else {
-        let closed = closed_now(l);
-        Day {
-            users: day.users,
-            h,
-            l: closed,
-        }
-    }
-}
-
-// ---- the calls
 
 // What a refusal returns: "number, same record".
 fn refusal(number: u64, day: Day) -> Refusal
@@ -120,7 +32,7 @@ pub fn open(users: i64, table: &mut [i64]) -> OpenAnswer
         return OpenAnswer::Refused(cause);
     }
     integers::clear(table);
-    OpenAnswer::Opened(new_day(users))
+    OpenAnswer::Opened(day_record::new_day(users))
 }
 
 // The default thresholds of a month and zone: causes 4 and 8.
@@ -131,7 +43,7 @@ pub fn default_thresholds(month: i64, zone: i64) -> ThresholdsAnswer
     if cause != 0 {
         return ThresholdsAnswer::Refused(cause);
     }
-    let upper = rules::defaults::upper_default(month, zone);
+    let upper = ranges::defaults::upper_default(month, zone);
     let lower = integers::negated(upper);
     ThresholdsAnswer::Defaults(Thresholds { upper, lower })
 }
@@ -149,7 +61,13 @@ pub fn settle_hour(
     money: &mut [i64],
     scratch: &mut [u64],
 ) -> HourAnswer
-    ensures { λ r. ⌜ HourPromise day (now (table .entry)) (hourGiven terms (now (entry .entry)) (now (exit .entry)) (now (title .entry)) (now (pooling .entry)) (now (quantity .entry)) (now (money .entry)) (now (scratch .entry))) (now (table .exit)) (now (quantity .exit)) (now (money .exit)) (now (scratch .exit)) r ⌝ }
+    ensures { λ r. ⌜
+        HourPromise day (now (table .entry))
+        (hourGiven terms
+        (now (entry .entry)) (now (exit .entry)) (now (title .entry)) (now (pooling .entry))
+        (now (quantity .entry)) (now (money .entry)) (now (scratch .entry)))
+        (now (table .exit)) (now (quantity .exit)) (now (money .exit)) (now (scratch .exit)) r
+        ⌝ }
 {
     let cause = causes::hour_cause(
         day,
@@ -177,7 +95,7 @@ pub fn settle_hour(
         money,
         scratch,
     );
-    let next = day_after_hour(terms.zone, day);
+    let next = day_record::day_after_hour(terms.zone, day);
     HourAnswer::Done(HourDone { day: next, outcome })
 }
 
@@ -189,14 +107,18 @@ pub fn close_zone(
     quantity: &mut [i64],
     money: &mut [i64],
 ) -> ClosingAnswer
-    ensures { λ r. ⌜ ClosingPromise day (now (table .entry)) (closingGiven terms (now (quantity .entry)) (now (money .entry))) (now (table .exit)) (now (quantity .exit)) (now (money .exit)) r ⌝ }
+    ensures { λ r. ⌜
+        ClosingPromise day (now (table .entry))
+        (closingGiven terms (now (quantity .entry)) (now (money .entry)))
+        (now (table .exit)) (now (quantity .exit)) (now (money .exit)) r
+        ⌝ }
 {
     let cause = causes::closing_cause(day, table, terms, quantity, money);
     if cause != 0 {
         return ClosingAnswer::Refused(refusal(cause, day));
     }
     let sums = closing::close_table(table, terms, quantity, money);
-    let next = day_after_closing(terms.zone, day);
+    let next = day_record::day_after_closing(terms.zone, day);
     ClosingAnswer::Closed(ClosingDone {
         day: next,
         sold: sums.sold,

@@ -8,19 +8,22 @@ use Rattle.rules.specs.declared.HourAnswer.{HourAnswer}
 use Rattle.rules.specs.declared.ClosingAnswer.{ClosingAnswer}
 use Rattle.rules.specs.Hours.{Hour, Closing}
 use Rattle.rules.specs.Promises.{HourPromise, ClosingPromise}
-use Rattle.gas_day_c.specs.declared.day.DayC.{DayC}
-use Rattle.gas_day_c.specs.declared.HourC.{HourC}
-use Rattle.gas_day_c.specs.declared.ClosingC.{ClosingC}
-use Rattle.gas_day_c.specs.Records.{dayOf}
-use Rattle.gas_day_c.specs.Flat.{flatHour, HourForC, flatClosing, ClosingForC}
+use Rattle.flat.specs.declared.day.DayC.{DayC}
+use Rattle.flat.specs.declared.HourC.{HourC}
+use Rattle.flat.specs.declared.ClosingC.{ClosingC}
+use Rattle.flat.specs.Records.{dayOf}
+use Rattle.flat.specs.Flat.{flatHour, flatClosing}
+use Rattle.gas_day_c.specs.Promises.{HourForC, ClosingForC}
 
 module _ {d : DayC} {e : Day} {t : List ℤ} {t' q' m' : List ℤ} (is : e ≡ dayOf d) where
-  pub hour-for-c : {g : Hour} {s' : List ℕ} {a : HourAnswer} {r : HourC} → HourPromise e t g t' q' m' s' a → r ≡ flatHour d a → HourForC d t g t' q' m' s' r
+  pub hour-for-c : {g : Hour} {s' : List ℕ} {a : HourAnswer} {r : HourC} → HourPromise e t g t' q' m' s' a → r ≡ flatHour d a
+      → HourForC d t g t' q' m' s' r
   hour-for-c {g} {s'} {a} p f =
       let p = subst (λ (e : Day). HourPromise e t g t' q' m' s' a) is p in
       record { answer = f ∙ ap (flatHour d) (p .answer); table = p .table; quantity = p .quantity; money = p .money; scratch = p .scratch }
 
-  pub closing-for-c : {g : Closing} {a : ClosingAnswer} {r : ClosingC} → ClosingPromise e t g t' q' m' a → r ≡ flatClosing d a → ClosingForC d t g t' q' m' r
+  pub closing-for-c : {g : Closing} {a : ClosingAnswer} {r : ClosingC} → ClosingPromise e t g t' q' m' a → r ≡ flatClosing d a
+      → ClosingForC d t g t' q' m' r
   closing-for-c {g} {a} p f =
       let p = subst (λ (e : Day). ClosingPromise e t g t' q' m' a) is p in
       record { answer = f ∙ ap (flatClosing d) (p .answer); table = p .table; quantity = p .quantity; money = p .money }

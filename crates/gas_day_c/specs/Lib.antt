@@ -1,4 +1,2 @@
--- The record and the answers as C holds them, what the calls for C promise, and what is proved of the record.
-pub mod Records
-pub mod Flat
-pub mod Guarantees
+-- What the calls for C promise.
+pub mod Promises

@@ -54,7 +54,8 @@ module _ {A : Type 0} where
   count-map p f (x ∷ xs) = omega (arith, count-map p f xs)
 
   -- a loop's step: one element more
-  pub count-step : (p : A → Bool) (xs : List A) (i : ℕ) (z : A) → i < length xs → count p (take (i + 1) xs) ≡ count p (take i xs) + bit (p (getD xs i z))
+  pub count-step : (p : A → Bool) (xs : List A) (i : ℕ) (z : A) → i < length xs
+      → count p (take (i + 1) xs) ≡ count p (take i xs) + bit (p (getD xs i z))
   unfolding count
   count-step p xs i z h = rw add-one (go xs i h)
     where

@@ -143,8 +143,10 @@ diff-mul a b c d =
     (products (pp (diff a b)) (np (diff a b)) (pp (diff c d)) (np (diff c d)) _ _ _ _
     (diff-parts a b) (diff-parts c d) (mul-parts (diff a b) (diff c d)) (diff-parts (a * c + b * d) (a * d + b * c)))
   where
-    products : (x y z w m n r s : ℕ) → x + b ≡ y + a → z + d ≡ w + c → m + (x * w + y * z) ≡ n + (x * z + y * w) → r + (a * d + b * c) ≡ s + (a * c + b * d) → m + s ≡ r + n
-    products x y z w m n r s p q e f = omega (arith, times z (x + b) (y + a) p, times w (x + b) (y + a) p, times a (z + d) (w + c) q, times b (z + d) (w + c) q)
+    products : (x y z w m n r s : ℕ) → x + b ≡ y + a → z + d ≡ w + c → m + (x * w + y * z) ≡ n + (x * z + y * w)
+        → r + (a * d + b * c) ≡ s + (a * c + b * d) → m + s ≡ r + n
+    products x y z w m n r s p q e f =
+        omega (arith, times z (x + b) (y + a) p, times w (x + b) (y + a) p, times a (z + d) (w + c) q, times b (z + d) (w + c) q)
 
 pub diff-pos : (n : ℕ) → pos n ≡ diff n 0
 diff-pos n = eq-parts _ _ (omega (arith, diff-parts n 0))

@@ -86,10 +86,12 @@ module _ {A : Type 0} (p : A → Bool) where
 
 -- what holds of every element holds of the first, of the last and of each
 pub every-take : {A : Type 0} (p : A → Bool) (n : ℕ) (xs : List A) → every p xs ≡ true → every p (take n xs) ≡ true
-every-take p n xs e = and-true (every p (take n xs)) (every p (drop n xs)) (sym (every-append p (take n xs) (drop n xs)) ∙ ap (every p) (take-append-drop n xs) ∙ e) .0
+every-take p n xs e =
+    and-true (every p (take n xs)) (every p (drop n xs)) (sym (every-append p (take n xs) (drop n xs)) ∙ ap (every p) (take-append-drop n xs) ∙ e) .0
 
 pub every-drop : {A : Type 0} (p : A → Bool) (n : ℕ) (xs : List A) → every p xs ≡ true → every p (drop n xs) ≡ true
-every-drop p n xs e = and-true (every p (take n xs)) (every p (drop n xs)) (sym (every-append p (take n xs) (drop n xs)) ∙ ap (every p) (take-append-drop n xs) ∙ e) .1
+every-drop p n xs e =
+    and-true (every p (take n xs)) (every p (drop n xs)) (sym (every-append p (take n xs) (drop n xs)) ∙ ap (every p) (take-append-drop n xs) ∙ e) .1
 
 pub every-at : {A : Type 0} (p : A → Bool) (xs : List A) (i : ℕ) (z : A) → every p xs ≡ true → i < length xs → p (getD xs i z) ≡ true
 unfolding every

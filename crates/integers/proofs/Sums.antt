@@ -73,7 +73,8 @@ module _ {A B C : Type 0} (f : A → B → C) where
   length-zip (x ∷ xs) [] e = absurd (omega arith)
   length-zip (x ∷ xs) (y ∷ ys) e = ap suc (length-zip xs ys (omega arith))
 
-  pub getD-zip : (xs : List A) (ys : List B) (i : ℕ) (x : A) (y : B) (z : C) → i < length xs → i < length ys → getD (zipWith f xs ys) i z ≡ f (getD xs i x) (getD ys i y)
+  pub getD-zip : (xs : List A) (ys : List B) (i : ℕ) (x : A) (y : B) (z : C) → i < length xs → i < length ys
+      → getD (zipWith f xs ys) i z ≡ f (getD xs i x) (getD ys i y)
   unfolding zipWith
   getD-zip [] ys i x y z h k = absurd (not-suc-le-zero h)
   getD-zip (a ∷ xs) [] i x y z h k = absurd (not-suc-le-zero k)

@@ -1,12 +1,13 @@
 // Leaf functions on signed numbers and on lists of numbers. The laws that all crates above cite are in proofs/.
 ghost use mathlib.Core.Path.{_≡_};
-ghost use mathlib.Core.Bool.{_&&_};
+ghost use mathlib.Core.Bool.{_&&_, _||_};
 ghost use Prim.Native.Nat.{_*_, _^_, _<_};
+ghost use lib.Dec.{eqb};
 ghost use lib.IntN.{pos, natAbs, negℤ, _*ℤ_};
 ghost use lib.ListN.{length, replicate};
 ghost use lib.Signed.{leZ};
 ghost use Rattle.integers.specs.Lists.{every};
-ghost use Rattle.integers.specs.Ranges.{inRange, isZero, natural};
+ghost use Rattle.integers.specs.Ranges.{inRange, equal, isZero, natural};
 
 // The order of two signed numbers. (A call, where `<=` would be, hands its caller an equation of the Boolean.)
 pub fn at_most(a: i64, b: i64) -> bool
@@ -22,11 +23,30 @@ pub fn both(a: bool, b: bool) -> bool
     if a { b } else { false }
 }
 
+pub fn either(a: bool, b: bool) -> bool
+    ensures { λ r. ⌜ r ≡ (a || b) ⌝ }
+{
+    if a { true } else { b }
+}
+
 // `lo <= x <= hi`
 pub fn within(lo: i64, hi: i64, x: i64) -> bool
     ensures { λ r. ⌜ r ≡ inRange lo hi x ⌝ }
 {
     both(at_most(lo, x), at_most(x, hi))
+}
+
+pub fn equal(a: i64, b: i64) -> bool
+    ensures { λ r. ⌜ r ≡ equal a b ⌝ }
+{
+    within(a, a, b)
+}
+
+// The same of two counts.
+pub fn same(a: usize, b: usize) -> bool
+    ensures { λ r. ⌜ r ≡ eqb a b ⌝ }
+{
+    a == b
 }
 
 // The size of a number without its sign; that of `i64::MIN` is 2^63.

@@ -97,10 +97,16 @@ cut-exists : (rs : List ℕ) (n : ℕ) → n ≤ above rs 0 → (at : ℕ) → a
 cut-exists rs n h zero k = (0, (n - above rs 1, record { adds = omega arith; fits = omega (arith, above-suc rs 0) }))
 cut-exists rs n h (suc at) k = go (ltb (above rs (suc at)) n) refl (λ j. cut-exists rs n h at j)
   where
-    go : (b : Bool) → ltb (above rs (suc at)) n ≡ b → (above rs (suc at) ≤ n → (s : ℕ) × ((ties : ℕ) × IsCut rs n (suc s) ties)) → (s : ℕ) × ((ties : ℕ) × IsCut rs n (suc s) ties)
+    go : (b : Bool) → ltb (above rs (suc at)) n ≡ b → (above rs (suc at) ≤ n → (s : ℕ) × ((ties : ℕ) × IsCut rs n (suc s) ties))
+        → (s : ℕ) × ((ties : ℕ) × IsCut rs n (suc s) ties)
     go true e down = down (omega (arith, ltb-true (above rs (suc at)) n e))
-    go false e down =
-        (suc at, (n - above rs (suc (suc at)), record { adds = omega arith; fits = omega (arith, above-suc rs (suc at), ltb-false (above rs (suc at)) n e) }))
+    go false e down = (
+      suc at,
+      (
+        n - above rs (suc (suc at)),
+        record { adds = omega arith; fits = omega (arith, above-suc rs (suc at), ltb-false (above rs (suc at)) n e) },
+      ),
+    )
 
 -- ---- how many a cut takes
 

@@ -36,7 +36,12 @@ adds-up sizes total some =
     )
 
 pub accurate : Accurate
-accurate sizes total some i h = rw (settled-getD sizes total i h, settled-at sizes total some i h) (go (gets sizes total some i h) (gets-some sizes total some i h))
+accurate sizes total some i h =
+    rw (
+      settled-getD sizes total i h,
+      settled-at sizes total some i h,
+    )
+    (go (gets sizes total some i h) (gets-some sizes total some i h))
   where
     x : ℕ
     x = getD sizes i 0
@@ -60,7 +65,8 @@ no-more-than-size sizes total some le i = go (ltb i (length sizes)) refl
     go true e =
         let near = accurate sizes total some i (ltb-true i (length sizes) e) .0 in
         omega (arith, lt-of-mul-lt-mul-right (sum sizes) {m = y} {n = x + 1} (omega (arith, near, mul-le-mul-right x le)))
-    go false e = omega (arith, List·getD-eq-default (settled sizes total) 0 {n = i} (omega (arith, settled-length sizes total, ltb-false i (length sizes) e)))
+    go false e =
+        omega (arith, List·getD-eq-default (settled sizes total) 0 {n = i} (omega (arith, settled-length sizes total, ltb-false i (length sizes) e)))
 
 -- one settled size for each user
 pub settled-long : (sizes : List ℕ) (total : ℕ) → length (settled sizes total) ≡ length sizes

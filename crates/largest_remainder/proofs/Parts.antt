@@ -79,7 +79,9 @@ module _ (sizes : List ℕ) (total : ℕ) where
 
       -- the causers with a larger remainder are the users with a larger remainder
       larger-eq : (r : ℕ) → count (λ y. causer y && ltb r (fraction sizes total y)) sizes ≡ above fractions r
-      larger-eq r = count-ext _ _ (causer-above (fraction sizes total) fraction-none r) sizes ∙ sym (count-map (λ y. ltb r y) (fraction sizes total) sizes)
+      larger-eq r =
+          count-ext _ _ (causer-above (fraction sizes total) fraction-none r) sizes
+          ∙ sym (count-map (λ y. ltb r y) (fraction sizes total) sizes)
 
       rank-some : 0 < getD fractions i 0 → rank sizes total i ≡ before fractions i
       unfolding rank
@@ -92,13 +94,15 @@ module _ (sizes : List ℕ) (total : ℕ) where
       -- a user without a remainder comes too late for a spare unit
       rank-none : getD fractions i 0 ≡ 0 → spare sizes total ≤ rank sizes total i
       unfolding rank
-      rank-none k = omega (arith, larger-eq (fraction sizes total (getD sizes i 0)), spare-le, ap (λ (x : ℕ). above fractions x) (sym fraction-at ∙ k))
+      rank-none k =
+          omega (arith, larger-eq (fraction sizes total (getD sizes i 0)), spare-le, ap (λ (x : ℕ). above fractions x) (sym fraction-at ∙ k))
 
       before-none : getD fractions i 0 ≡ 0 → spare sizes total ≤ before fractions i
       before-none k = omega (arith, spare-le, ap (λ (x : ℕ). above fractions x) k)
 
       size-some : 0 < getD fractions i 0 → 0 < getD sizes i 0
-      size-some k = ⊎-elim (λ e. absurd (omega (arith, fraction-at, ap (fraction sizes total) e, fraction-none))) (λ p. p) (eq-zero-or-pos (getD sizes i 0))
+      size-some k =
+          ⊎-elim (λ e. absurd (omega (arith, fraction-at, ap (fraction sizes total) e, fraction-none))) (λ p. p) (eq-zero-or-pos (getD sizes i 0))
 
       -- whether the user gets a spare unit, by his place among all remainders
       abbrev pub gets : Bool
@@ -129,8 +133,11 @@ module _ (sizes : List ℕ) (total : ℕ) where
           (eq-zero-or-pos (getD fractions i 0))
 
       -- a cut of the remainders tells who gets one
-      pub settled-cut : (at ties : ℕ) → IsCut fractions (spare sizes total) at ties → settledAt sizes total i ≡ whole sizes total (getD sizes i 0) + bit (taken fractions at ties i)
-      settled-cut at ties cut = settled-at ∙ ap (λ (b : Bool). whole sizes total (getD sizes i 0) + bit b) (cut-test fractions (spare sizes total) at ties cut i fraction-in)
+      pub settled-cut : (at ties : ℕ) → IsCut fractions (spare sizes total) at ties
+          → settledAt sizes total i ≡ whole sizes total (getD sizes i 0) + bit (taken fractions at ties i)
+      settled-cut at ties cut =
+          settled-at
+          ∙ ap (λ (b : Bool). whole sizes total (getD sizes i 0) + bit b) (cut-test fractions (spare sizes total) at ties cut i fraction-in)
 
   -- the list of settled sizes, place by place
   pub settled-length : length (settled sizes total) ≡ length sizes

@@ -8,7 +8,7 @@ use Rattle.integers.specs.Lists.{every, AtMost}
 use Rattle.integers.proofs.Counts.{length-tabulate, getD-tabulate}
 use Rattle.integers.proofs.Tests.{and-true}
 use Rattle.rules.specs.declared.Day.{Day}
-use Rattle.rules.specs.Limits.{entryFit, exitFit, titleFit, poolingFit}
+use Rattle.rules.specs.Limits.{entryMost, exitMost, titleMost, poolingMost, positionMost, entryFit, exitFit, titleFit, poolingFit}
 use Rattle.rules.specs.Days.{users, part, place}
 use Rattle.rules.specs.Hours.{Hour, amounts, before}
 use Rattle.rules.proofs.Small.{positions-small, entries-small, exits-small, titles-small, poolings-small}
@@ -25,11 +25,11 @@ module _ (p e x t i : List ℤ) where
 
 -- lists in range are lists of small numbers
 pub record Few (p e x t i : List ℤ) : Type 0 where
-  pub position : AtMost 100_000_000 p
-  pub entry : AtMost 50_000_000 e
-  pub exit : AtMost 50_000_000 x
-  pub title : AtMost 50_000_000 t
-  pub pooling : AtMost 100_000_000 i
+  pub position : AtMost positionMost p
+  pub entry : AtMost entryMost e
+  pub exit : AtMost exitMost x
+  pub title : AtMost titleMost t
+  pub pooling : AtMost poolingMost i
 
 pub few : {p e x t i : List ℤ} → Amounts p e x t i → Few p e x t i
 unfolding allFit

@@ -6,7 +6,7 @@ use Prim.Native.Nat.{ℕ, _≤_}
 use lib.IntN.{ℤ, pos, _+ℤ_}
 use lib.ListN.{length, getD}
 use Rattle.integers.specs.Lists.{every, tabulate}
-use Rattle.rules.specs.Limits.{entryFit, exitFit, titleFit, poolingFit, positionFit}
+use Rattle.rules.specs.Limits.{usersMost, entryFit, exitFit, titleFit, poolingFit, positionFit}
 
 -- of one user: its place in the part p, and its entry, exit, title and pooling amounts
 unfoldable pub beforeAt : List ℤ → List ℤ → List ℤ → List ℤ → List ℤ → ℕ → ℤ
@@ -21,12 +21,12 @@ befores p e x t i = tabulate (beforeAt p e x t i) (length e)
 unfoldable pub allFit : List ℤ → List ℤ → List ℤ → List ℤ → Bool
 allFit e x t i = every entryFit e && (every exitFit x && (every titleFit t && every poolingFit i))
 
--- lists of one length, of at most 128 users, and a part that is in range and has a place for each user
+-- lists of one length, of no more users than a day has, and a part that is in range and has a place for each user
 pub record Lent (p e x t i : List ℤ) : Type 0 where
   pub exits : length x ≡ length e
   pub titles : length t ≡ length e
   pub poolings : length i ≡ length e
-  pub few : length e ≤ 128
+  pub few : length e ≤ usersMost
   pub room : length e ≤ length p
   pub positions : every positionFit p ≡ true
 

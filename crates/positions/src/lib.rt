@@ -6,6 +6,7 @@ ghost use lib.IntN.{natAbs, _+ℤ_, _-ℤ_};
 ghost use lib.ListN.{length};
 ghost use lib.Signed.{ltZ};
 ghost use Rattle.integers.specs.Lists.{sumℤ, AtMost};
+ghost use Rattle.rules.specs.Limits.{usersMost, entryMost, exitMost, titleMost, poolingMost, positionMost, marketMost};
 ghost use Rattle.rules.specs.Causes.{termsFit};
 ghost use Rattle.rules.specs.Market.{within, excess, shortfall, imbalanceOf};
 ghost use Rattle.positions.specs.Against.{found};
@@ -15,14 +16,14 @@ use rules::HourTerms;
 
 // Exits are already negative: they are added.
 fn allocated(entry: i64, exit: i64) -> i64
-    requires { ⌜ (natAbs entry ≤ 50_000_000) × (natAbs exit ≤ 50_000_000) ⌝ }
+    requires { ⌜ (natAbs entry ≤ entryMost) × (natAbs exit ≤ exitMost) ⌝ }
     ensures { λ r. ⌜ r ≡ entry +ℤ exit ⌝ }
 {
     entry + exit
 }
 
 fn transferred(title: i64, pooling: i64) -> i64
-    requires { ⌜ (natAbs title ≤ 50_000_000) × (natAbs pooling ≤ 100_000_000) ⌝ }
+    requires { ⌜ (natAbs title ≤ titleMost) × (natAbs pooling ≤ poolingMost) ⌝ }
     ensures { λ r. ⌜ r ≡ title +ℤ pooling ⌝ }
 {
     title + pooling
@@ -30,15 +31,19 @@ fn transferred(title: i64, pooling: i64) -> i64
 
 // "the position in the table plus entry, exit, title and pooling amounts"
 pub fn before_of(position: i64, entry: i64, exit: i64, title: i64, pooling: i64) -> i64
-    requires { ⌜ (natAbs position ≤ 100_000_000) × (natAbs entry ≤ 50_000_000) × (natAbs exit ≤ 50_000_000) × (natAbs title ≤ 50_000_000) × (natAbs pooling ≤ 100_000_000) ⌝ }
+    requires { ⌜
+        (natAbs position ≤ positionMost)
+        × (natAbs entry ≤ entryMost) × (natAbs exit ≤ exitMost)
+        × (natAbs title ≤ titleMost) × (natAbs pooling ≤ poolingMost)
+        ⌝ }
     ensures { λ r. ⌜ r ≡ position +ℤ (entry +ℤ exit +ℤ title +ℤ pooling) ⌝ }
 {
     position + (allocated(entry, exit) + transferred(title, pooling))
 }
 
-// The sum of the amounts or positions of at most 128 users.
+// The sum of the amounts or positions of all users.
 pub fn sum_of(amounts: &[i64]) -> i64
-    requires { ⌜ (length (now amounts) ≤ 128) × AtMost 100_000_000 (now amounts) ⌝ }
+    requires { ⌜ (length (now amounts) ≤ usersMost) × AtMost positionMost (now amounts) ⌝ }
     ensures { λ r. ⌜ r ≡ sumℤ (now (amounts .entry)) ⌝ }
 {
     let mut sum: i64 = 0;
@@ -75,7 +80,7 @@ fn below_lower(terms: HourTerms, market: i64) -> bool
 
 // How far `high` is above `low`; how far below, where it is below.
 fn gap(low: i64, high: i64) -> u64
-    requires { ⌜ (natAbs low ≤ 12_800_000_000) × (natAbs high ≤ 12_800_000_000) ⌝ }
+    requires { ⌜ (natAbs low ≤ marketMost) × (natAbs high ≤ marketMost) ⌝ }
     ensures { λ r. ⌜ r ≡ natAbs (high -ℤ low) ⌝ }
 {
     integers::magnitude(high - low)
@@ -96,7 +101,7 @@ fn chosen(is_excess: bool, over: u64, is_shortfall: bool, under: u64) -> Imbalan
 
 // "Above the upper threshold there is an excess: the difference. Below the lower one there is a shortfall: the difference, taken positive."
 pub fn imbalance_of(terms: HourTerms, market: i64) -> Imbalance
-    requires { ⌜ (termsFit terms ≡ true) × (natAbs market ≤ 12_800_000_000) ⌝ }
+    requires { ⌜ (termsFit terms ≡ true) × (natAbs market ≤ marketMost) ⌝ }
     ensures { λ r. ⌜ found r ≡ imbalanceOf (terms .upper) (terms .lower) market ⌝ }
 {
     chosen(

@@ -17,7 +17,7 @@ use Rattle.rules.specs.declared.Day.{Day}
 use Rattle.rules.specs.declared.HourAnswer.the-variants.{Refused as HourRefused}
 use Rattle.rules.specs.declared.ClosingAnswer.the-variants.{Refused as ClosingRefused}
 use Rattle.rules.specs.declared.HourTerms.{HourTerms}
-use Rattle.rules.specs.Limits.{usersFit, zoneFit, positionFit, upperFit, lowerFit}
+use Rattle.rules.specs.Limits.{thresholdMost, usersFit, zoneFit, positionFit, upperFit, lowerFit}
 use Rattle.rules.specs.Days.{users, isClosed, firstPlace, part}
 use Rattle.rules.specs.Hours.{Hour, Closing}
 use Rattle.rules.specs.Causes.{hourCause, closingCause, dayFit, tableLong, listLong, scratchLong, hourLong, closingLong, zoneOpen, positionsFit, tableFit, termsFit}
@@ -204,4 +204,4 @@ pub thresholds-sound : (k : HourTerms) → termsFit k ≡ true → (leZ (pos 0) 
 unfolding termsFit upperFit lowerFit
 thresholds-sound k e =
     let both = and-true (upperFit (k .upper)) (lowerFit (k .lower)) (and-true (upperFit (k .upper) && lowerFit (k .lower)) _ e .0) in
-    (and-true (leZ (pos 0) (k .upper)) _ (both .0) .0, and-true (leZ (negℤ (pos 1_000_000_000)) (k .lower)) (leZ (k .lower) (pos 0)) (both .1) .1)
+    (and-true (leZ (pos 0) (k .upper)) _ (both .0) .0, and-true (leZ (negℤ (pos thresholdMost)) (k .lower)) (leZ (k .lower) (pos 0)) (both .1) .1)

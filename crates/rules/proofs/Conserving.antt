@@ -55,7 +55,8 @@ module _ (d : Day) (t : List ℤ) (g : Hour) (k : hourCause d t g ≡ 0) where
   positions-left = ap (take (users d)) hour-part ∙ take-at _ _ (users d) (length-after (hourImbalance d t g) (before d t g) ∙ length-before d t g)
 
   -- rules 1 and 5 of one user
-  hour-here : (u : ℕ) → u < users d → place (g .terms .zone) u (hourTable d t g) ≡ place (g .terms .zone) u t +ℤ amounts g u -ℤ getD (hourQuantity d t g) u (pos 0)
+  hour-here : (u : ℕ) → u < users d
+      → place (g .terms .zone) u (hourTable d t g) ≡ place (g .terms .zone) u t +ℤ amounts g u -ℤ getD (hourQuantity d t g) u (pos 0)
   unfolding hourQuantity place before
   hour-here u h =
       ap (λ (p : List ℤ). getD p u (pos 0)) hour-part
@@ -109,7 +110,8 @@ hour-day : (d : Day) (t : List ℤ) (g : Hour) → hourDay (hourAnswer d t g) �
 unfolding hourAnswer hourDay
 hour-day d t g = by-ap hourDay (hourCause d t g) _ _
 
-closing-day : (d : Day) (t : List ℤ) (g : Closing) → closingDay (closingAnswer d t g) ≡ byCause (closingCause d t g) (dayAfterClosing (g .terms .zone) d) d
+closing-day : (d : Day) (t : List ℤ) (g : Closing)
+    → closingDay (closingAnswer d t g) ≡ byCause (closingCause d t g) (dayAfterClosing (g .terms .zone) d) d
 unfolding closingAnswer closingDay
 closing-day d t g = by-ap closingDay (closingCause d t g) _ _
 
@@ -121,8 +123,10 @@ by-users (suc k) e d h = refl
 
 users-step : (s : State) (c : Call) → users (step s c .day) ≡ users (s .day)
 unfolding step users dayAfterHour dayAfterClosing
-users-step s (hour g) = ap natural (ap (λ (d : Day). d .users) (hour-day (s .day) (s .table) g) ∙ by-users _ _ _ (users-kept (g .terms .zone) _ (s .day)))
-users-step s (closing g) = ap natural (ap (λ (d : Day). d .users) (closing-day (s .day) (s .table) g) ∙ by-users _ _ _ (users-kept (g .terms .zone) _ (s .day)))
+users-step s (hour g) =
+    ap natural (ap (λ (d : Day). d .users) (hour-day (s .day) (s .table) g) ∙ by-users _ _ _ (users-kept (g .terms .zone) _ (s .day)))
+users-step s (closing g) =
+    ap natural (ap (λ (d : Day). d .users) (closing-day (s .day) (s .table) g) ∙ by-users _ _ _ (users-kept (g .terms .zone) _ (s .day)))
 
 -- ---- one call: what it adds to the first sum, it adds to the second and to the place
 hour-balance : (p a q : ℤ) → a +ℤ p ≡ q +ℤ (p +ℤ a -ℤ q)
@@ -134,12 +138,14 @@ chain = lin3 _ (λ a b c d e f. lin4 _ (λ g h i j k l m n. simp diffs (omega li
 module _ (zone : ℤ) (user : ℕ) (zoned : Zone zone) where
   module _ (d : Day) (t : List ℤ) (h : user < users d) where
     hour-yes : (g : Hour) → hourCause d t g ≡ 0 → (b : Bool) → equal (g .terms .zone) zone ≡ b
-        → cond b (amounts g user) (pos 0) +ℤ place zone user t ≡ cond b (getD (hourQuantity d t g) user (pos 0)) (pos 0) +ℤ place zone user (hourTable d t g)
+        → cond b (amounts g user) (pos 0) +ℤ place zone user t
+        ≡ cond b (getD (hourQuantity d t g) user (pos 0)) (pos 0) +ℤ place zone user (hourTable d t g)
     unfolding place
     hour-yes g k true e =
         rw (← equal-true (g .terms .zone) zone e, hour-here d t g k user h)
         (hour-balance (place (g .terms .zone) user t) (amounts g user) (getD (hourQuantity d t g) user (pos 0)))
-    hour-yes g k false e = ap (λ (p : List ℤ). pos 0 +ℤ getD p user (pos 0)) (sym (hour-other d t g k zone zoned (equal-false (g .terms .zone) zone e)))
+    hour-yes g k false e =
+        ap (λ (p : List ℤ). pos 0 +ℤ getD p user (pos 0)) (sym (hour-other d t g k zone zoned (equal-false (g .terms .zone) zone e)))
 
     closing-yes : (g : Closing) → closingCause d t g ≡ 0 → (b : Bool) → equal (g .terms .zone) zone ≡ b
         → pos 0 +ℤ place zone user t ≡ cond b (getD (closingQuantity d t g) user (pos 0)) (pos 0) +ℤ place zone user (closingTable d t g)
@@ -151,7 +157,8 @@ module _ (zone : ℤ) (user : ℕ) (zoned : Zone zone) where
           closing-zero d t g k user (omega (arith, closing-sound d t g k .few)),
         )
         (+ℤ-comm (pos 0) (place (g .terms .zone) user t))
-    closing-yes g k false e = ap (λ (p : List ℤ). pos 0 +ℤ getD p user (pos 0)) (sym (closing-other d t g k zone zoned (equal-false (g .terms .zone) zone e)))
+    closing-yes g k false e =
+        ap (λ (p : List ℤ). pos 0 +ℤ getD p user (pos 0)) (sym (closing-other d t g k zone zoned (equal-false (g .terms .zone) zone e)))
 
   step-balance : (s : State) (c : Call) → user < users (s .day)
       → addsFirst zone user s c +ℤ place zone user (s .table) ≡ addsSecond zone user s c +ℤ place zone user (step s c .table)
@@ -159,13 +166,15 @@ module _ (zone : ℤ) (user : ℕ) (zoned : Zone zone) where
   step-balance s (hour g) h = go (eq-zero-or-pos (hourCause (s .day) (s .table) g))
     where
       go : (hourCause (s .day) (s .table) g ≡ 0) ⊎ (0 < hourCause (s .day) (s .table) g)
-          → addsFirst zone user s (hour g) +ℤ place zone user (s .table) ≡ addsSecond zone user s (hour g) +ℤ place zone user (hourTable (s .day) (s .table) g)
+          → addsFirst zone user s (hour g) +ℤ place zone user (s .table)
+          ≡ addsSecond zone user s (hour g) +ℤ place zone user (hourTable (s .day) (s .table) g)
       go (inl k) = rw (hour-accepted s g true (eq-eqb _ 0 k)) (hour-yes (s .day) (s .table) h g k (equal (g .terms .zone) zone) refl)
       go (inr k) = rw (hour-accepted s g false (some-not-none _ k), hour-refused (s .day) (s .table) g k)
   step-balance s (closing g) h = go (eq-zero-or-pos (closingCause (s .day) (s .table) g))
     where
       go : (closingCause (s .day) (s .table) g ≡ 0) ⊎ (0 < closingCause (s .day) (s .table) g)
-          → addsFirst zone user s (closing g) +ℤ place zone user (s .table) ≡ addsSecond zone user s (closing g) +ℤ place zone user (closingTable (s .day) (s .table) g)
+          → addsFirst zone user s (closing g) +ℤ place zone user (s .table)
+          ≡ addsSecond zone user s (closing g) +ℤ place zone user (closingTable (s .day) (s .table) g)
       go (inl k) = rw (closing-accepted s g true (eq-eqb _ 0 k)) (closing-yes (s .day) (s .table) h g k (equal (g .terms .zone) zone) refl)
       go (inr k) = rw (closing-accepted s g false (some-not-none _ k), closing-refused (s .day) (s .table) g k)
 
@@ -234,7 +243,8 @@ marked-step : (zone : ℤ) → Zone zone → (s : State) (c : Call) → isClosed
 unfolding step closesNow
 marked-step zone zoned s (hour g) = go (eq-zero-or-pos (hourCause (s .day) (s .table) g))
   where
-    go : (hourCause (s .day) (s .table) g ≡ 0) ⊎ (0 < hourCause (s .day) (s .table) g) → isClosed zone (hourDay (hourAnswer (s .day) (s .table) g)) ≡ (isClosed zone (s .day) || false)
+    go : (hourCause (s .day) (s .table) g ≡ 0) ⊎ (0 < hourCause (s .day) (s .table) g)
+        → isClosed zone (hourDay (hourAnswer (s .day) (s .table) g)) ≡ (isClosed zone (s .day) || false)
     go (inl k) =
         ap (isClosed zone) (hour-day (s .day) (s .table) g ∙ by-none _ _ _ k)
         ∙ closed-hour zone (g .terms .zone) (s .day) zoned (hour-sound (s .day) (s .table) g k .zoned) ∙ sym (or-false _)
@@ -244,34 +254,41 @@ marked-step zone zoned s (closing g) = go (eq-zero-or-pos (closingCause (s .day)
     now : Bool → Bool
     now b = isClosed zone (s .day) || b && equal (g .terms .zone) zone
 
-    go : (closingCause (s .day) (s .table) g ≡ 0) ⊎ (0 < closingCause (s .day) (s .table) g) → isClosed zone (closingDay (closingAnswer (s .day) (s .table) g)) ≡ now (closingAccepted s g)
+    go : (closingCause (s .day) (s .table) g ≡ 0) ⊎ (0 < closingCause (s .day) (s .table) g)
+        → isClosed zone (closingDay (closingAnswer (s .day) (s .table) g)) ≡ now (closingAccepted s g)
     go (inl k) =
         ap (isClosed zone) (closing-day (s .day) (s .table) g ∙ by-none _ _ _ k)
-        ∙ closed-closing zone (g .terms .zone) (s .day) zoned (closing-sound (s .day) (s .table) g k .zoned) ∙ ap now (sym (closing-accepted s g true (eq-eqb _ 0 k)))
+        ∙ closed-closing zone (g .terms .zone) (s .day) zoned (closing-sound (s .day) (s .table) g k .zoned)
+        ∙ ap now (sym (closing-accepted s g true (eq-eqb _ 0 k)))
     go (inr k) =
-        ap (isClosed zone) (closing-day (s .day) (s .table) g ∙ by-some _ _ _ k) ∙ sym (or-false _) ∙ ap now (sym (closing-accepted s g false (some-not-none _ k)))
+        ap (isClosed zone) (closing-day (s .day) (s .table) g ∙ by-some _ _ _ k) ∙ sym (or-false _)
+        ∙ ap now (sym (closing-accepted s g false (some-not-none _ k)))
 
 pub marked-run : (zone : ℤ) → Zone zone → (s : State) (cs : List Call) → isClosed zone (run s cs .day) ≡ (isClosed zone (s .day) || closes zone s cs)
 unfolding run closes
 marked-run zone zoned s [] = sym (or-false _)
 marked-run zone zoned s (c ∷ cs) =
-    marked-run zone zoned (step s c) cs ∙ ap (λ (b : Bool). b || closes zone (step s c) cs) (marked-step zone zoned s c) ∙ or-assoc (isClosed zone (s .day)) (closesNow zone s c) (closes zone (step s c) cs)
+    marked-run zone zoned (step s c) cs ∙ ap (λ (b : Bool). b || closes zone (step s c) cs) (marked-step zone zoned s c)
+    ∙ or-assoc (isClosed zone (s .day)) (closesNow zone s c) (closes zone (step s c) cs)
 
 -- a closed zone's part is as it was
 closed-step : (zone : ℤ) → Zone zone → (s : State) (c : Call) → isClosed zone (s .day) ≡ true → part zone (step s c .table) ≡ part zone (s .table)
 unfolding step
 closed-step zone zoned s (hour g) h = go (eq-zero-or-pos (hourCause (s .day) (s .table) g))
   where
-    go : (hourCause (s .day) (s .table) g ≡ 0) ⊎ (0 < hourCause (s .day) (s .table) g) → part zone (hourTable (s .day) (s .table) g) ≡ part zone (s .table)
+    go : (hourCause (s .day) (s .table) g ≡ 0) ⊎ (0 < hourCause (s .day) (s .table) g)
+        → part zone (hourTable (s .day) (s .table) g) ≡ part zone (s .table)
     go (inl k) = hour-other (s .day) (s .table) g k zone zoned (clash (s .day) (g .terms .zone) zone (hour-open (s .day) (s .table) g k) h)
     go (inr k) = ap (part zone) (hour-refused (s .day) (s .table) g k)
 closed-step zone zoned s (closing g) h = go (eq-zero-or-pos (closingCause (s .day) (s .table) g))
   where
-    go : (closingCause (s .day) (s .table) g ≡ 0) ⊎ (0 < closingCause (s .day) (s .table) g) → part zone (closingTable (s .day) (s .table) g) ≡ part zone (s .table)
+    go : (closingCause (s .day) (s .table) g ≡ 0) ⊎ (0 < closingCause (s .day) (s .table) g)
+        → part zone (closingTable (s .day) (s .table) g) ≡ part zone (s .table)
     go (inl k) = closing-other (s .day) (s .table) g k zone zoned (clash (s .day) (g .terms .zone) zone (closing-open (s .day) (s .table) g k) h)
     go (inr k) = ap (part zone) (closing-refused (s .day) (s .table) g k)
 
-closed-run : (zone : ℤ) → Zone zone → (s : State) (cs : List Call) → isClosed zone (s .day) ≡ true → part zone (run s cs .table) ≡ part zone (s .table)
+closed-run : (zone : ℤ) → Zone zone → (s : State) (cs : List Call) → isClosed zone (s .day) ≡ true
+    → part zone (run s cs .table) ≡ part zone (s .table)
 unfolding run
 closed-run zone zoned s [] h = refl
 closed-run zone zoned s (c ∷ cs) h =
@@ -283,11 +300,13 @@ unfolding closesNow step
 closed-now zone s (hour g) h = not-both (sym h)
 closed-now zone s (closing g) h = go (eq-zero-or-pos (closingCause (s .day) (s .table) g))
   where
-    go : (closingCause (s .day) (s .table) g ≡ 0) ⊎ (0 < closingCause (s .day) (s .table) g) → (p : ℕ) → p < 128 → place zone p (closingTable (s .day) (s .table) g) ≡ pos 0
+    go : (closingCause (s .day) (s .table) g ≡ 0) ⊎ (0 < closingCause (s .day) (s .table) g) → (p : ℕ) → p < 128
+        → place zone p (closingTable (s .day) (s .table) g) ≡ pos 0
     go (inl k) = rw (← equal-true (g .terms .zone) zone (and-true (closingAccepted s g) _ h .1)) (closing-zero (s .day) (s .table) g k)
     go (inr k) = not-both (sym (and-true (closingAccepted s g) _ h .0) ∙ closing-accepted s g false (some-not-none _ k))
 
-pub closed-zero : (zone : ℤ) → Zone zone → (s : State) (cs : List Call) → closes zone s cs ≡ true → (p : ℕ) → p < 128 → place zone p (run s cs .table) ≡ pos 0
+pub closed-zero : (zone : ℤ) → Zone zone → (s : State) (cs : List Call) → closes zone s cs ≡ true → (p : ℕ) → p < 128
+    → place zone p (run s cs .table) ≡ pos 0
 unfolding closes run place
 closed-zero zone zoned s [] h p l = not-both (sym h)
 closed-zero zone zoned s (c ∷ cs) h p l = go (closesNow zone s c) refl h (λ k. closed-zero zone zoned (step s c) cs k p l)

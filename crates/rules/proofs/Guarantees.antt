@@ -66,7 +66,8 @@ accuracy d t g a =
     let k : hourCause d t g ≡ 0 = sym (hour-number d t g) ∙ a in
     let f = hour-fit d t g k in
     let b = thresholds-sound (g .terms) (f .terms) in
-    rw (by-none (hourCause d t g) _ _ k, positions-left d t g k) (settles (g .terms .upper) (g .terms .lower) (before d t g) (b .0) (b .1) (f .positions))
+    rw (by-none (hourCause d t g) _ _ k, positions-left d t g k)
+    (settles (g .terms .upper) (g .terms .lower) (before d t g) (b .0) (b .1) (f .positions))
 
 -- ---- the outcome of an accepted hour
 

@@ -1,6 +1,4 @@
 -- Why the definitions have the properties of specs/Guarantees.antt, and what an accepted call may count on.
-mod Checked
-mod Lookup
 pub mod Refusing
 pub mod Zones
 pub mod Accepted

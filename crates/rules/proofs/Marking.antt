@@ -49,7 +49,8 @@ ones-word [] zero h = refl
 ones-word [] (suc k) h = omega (arith, ones-word [] k (omega arith))
 ones-word (b ∷ bs) zero h = absurd (not-suc-le-zero h)
 ones-word (b ∷ bs) (suc k) h =
-    ap₂ (λ (m n : ℕ). m + onesIn k n) (word-low b (word bs) .0) (word-low b (word bs) .1) ∙ ap (λ (m : ℕ). bit b + m) (ones-word bs k (le-of-suc-le-suc h))
+    ap₂ (λ (m n : ℕ). m + onesIn k n) (word-low b (word bs) .0) (word-low b (word bs) .1)
+    ∙ ap (λ (m : ℕ). bit b + m) (ones-word bs k (le-of-suc-le-suc h))
 
 -- the count of ones that the machine answers, which does not compute at a word's width
 pub ones-in : (k n : ℕ) → n < 2 ^ k → onesIn k n ≡ ones n
@@ -84,6 +85,7 @@ module _ (bs : List Bool) (few : length bs ≤ 128) where
   pub marks-number : marks bs .number ≡ count (λ b. b) bs
   unfolding marks marks-in
   marks-number =
-      ap₂ (λ (m n : ℕ). m + n) (ones-word (take 64 bs) 64 (simp length-take (omega arith))) (ones-word (take 64 (drop 64 bs)) 64 (simp (length-take, length-drop) (omega arith)))
+      ap₂ (λ (m n : ℕ). m + n) (ones-word (take 64 bs) 64 (simp length-take (omega arith)))
+      (ones-word (take 64 (drop 64 bs)) 64 (simp (length-take, length-drop) (omega arith)))
       ∙ ap (λ (l : List Bool). marks-in (take 64 bs) + marks-in l) (take-all 64 (drop 64 bs) (simp length-drop (omega arith)))
       ∙ marks-parts 64 bs

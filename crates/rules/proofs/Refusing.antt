@@ -39,7 +39,8 @@ by-ap f zero a b = refl
 by-ap f (suc k) a b = refl
 
 -- a reading that finds 0 in what is accepted and k in the refusal by k finds the cause
-pub by-number : {A : Type 0} (f : A → ℕ) (accepted : A) (refused : ℕ → A) → f accepted ≡ 0 → ((k : ℕ) → f (refused k) ≡ k) → (k : ℕ) → f (byCause k accepted (refused k)) ≡ k
+pub by-number : {A : Type 0} (f : A → ℕ) (accepted : A) (refused : ℕ → A) → f accepted ≡ 0 → ((k : ℕ) → f (refused k) ≡ k)
+    → (k : ℕ) → f (byCause k accepted (refused k)) ≡ k
 unfolding byCause
 by-number f accepted refused p q zero = p
 by-number f accepted refused p q (suc k) = q (suc k)

@@ -20,7 +20,7 @@ use Rattle.integers.proofs.Sums.{sum-zip-sub, length-zip, getD-zip}
 use Rattle.integers.proofs.Passes.{every-at}
 use Rattle.largest_remainder.specs.Rule.{settled}
 use Rattle.largest_remainder.proofs.Guarantees.{adds-up, accurate, no-more-than-size, settled-long}
-use Rattle.rules.specs.Limits.{positionFit}
+use Rattle.rules.specs.Limits.{positionMost, positionFit}
 use Rattle.rules.specs.Market.{Imbalance, within, excess, shortfall, imbalanceOf, imbalance, total, caused, size, sizes, settledSizes, signed, quantities, after}
 use Rattle.rules.specs.Guarantees.{UserAccurate, Accurate}
 use Rattle.rules.proofs.Small.{position-small}
@@ -113,7 +113,8 @@ add-le = lin4 _ (λ a b c d e f g h. simp diffs (omega linear))
 market-le : (n : ℕ) (ps : List ℤ) → leZ (sumℤ ps) (pos (sum (sizes (excess n) ps))) ≡ true
 unfolding sumℤ sum sizes
 market-le n [] = refl
-market-le n (p ∷ ps) = add-le (pos (size (excess n) p)) (pos (sum (sizes (excess n) ps))) p (sumℤ ps) (rw (size-excess n p) (le-natural p)) (market-le n ps)
+market-le n (p ∷ ps) =
+    add-le (pos (size (excess n) p)) (pos (sum (sizes (excess n) ps))) p (sumℤ ps) (rw (size-excess n p) (le-natural p)) (market-le n ps)
 
 market-ge : (n : ℕ) (ps : List ℤ) → leZ (negℤ (sumℤ ps)) (pos (sum (sizes (shortfall n) ps))) ≡ true
 unfolding sumℤ sum sizes
@@ -130,7 +131,8 @@ pub record Shareable (i : Imbalance) (ps : List ℤ) : Type 0 where
 enough-excess : (e s u m : ℤ) → leZ (pos 0) u ≡ true → ltZ u m ≡ true → e ≡ m -ℤ u → leZ m s ≡ true → (ltZ (pos 0) s ≡ true) × (leZ e s ≡ true)
 enough-excess = lin4 _ (λ a b c d e f g h. simp diffs (omega linear))
 
-enough-shortfall : (e s l m : ℤ) → leZ l (pos 0) ≡ true → ltZ m l ≡ true → e ≡ l -ℤ m → leZ (negℤ m) s ≡ true → (ltZ (pos 0) s ≡ true) × (leZ e s ≡ true)
+enough-shortfall : (e s l m : ℤ) → leZ l (pos 0) ≡ true → ltZ m l ≡ true → e ≡ l -ℤ m → leZ (negℤ m) s ≡ true
+    → (ltZ (pos 0) s ≡ true) × (leZ e s ≡ true)
 enough-shortfall = lin4 _ (λ a b c d e f g h. simp diffs (omega linear))
 
 module _ (upper lower : ℤ) (ps : List ℤ) (top : leZ (pos 0) upper ≡ true) (bottom : leZ lower (pos 0) ≡ true) where
@@ -198,30 +200,43 @@ record MarketAfter (upper lower : ℤ) (i : Imbalance) (ps : List ℤ) : Type 0 
   not-below : leZ lower (sumℤ (after i ps)) ≡ true
   adds : sum (map natAbs (quantities i ps)) ≡ total i
 
-market-after : (upper lower : ℤ) (ps : List ℤ) → leZ (pos 0) upper ≡ true → leZ lower (pos 0) ≡ true → {i : Imbalance} → View upper lower (sumℤ ps) i → MarketAfter upper lower i ps
+market-after : (upper lower : ℤ) (ps : List ℤ) → leZ (pos 0) upper ≡ true → leZ lower (pos 0) ≡ true → {i : Imbalance}
+    → View upper lower (sumℤ ps) i → MarketAfter upper lower i ps
 unfolding signed total quantities
 market-after upper lower ps top bottom (is-within a b) =
-    record { not-above = rw (sum-after within ps, +ℤ-idr (sumℤ ps)) a; not-below = rw (sum-after within ps, +ℤ-idr (sumℤ ps)) b; adds = sizes-within (settledSizes within ps) }
+    record {
+      not-above = rw (sum-after within ps, +ℤ-idr (sumℤ ps)) a;
+      not-below = rw (sum-after within ps, +ℤ-idr (sumℤ ps)) b;
+      adds = sizes-within (settledSizes within ps);
+    }
 market-after upper lower ps top bottom (is-excess {n = n} a b) =
     let s = sum-settled (excess n) ps (share-excess upper lower ps top bottom n a b) in
     let e : sumℤ (after (excess n) ps) ≡ upper = sum-after (excess n) ps ∙ ap (λ (k : ℕ). sumℤ ps -ℤ pos k) s ∙ left-excess upper (sumℤ ps) (pos n) b in
-    record { not-above = rw e (le-self upper); not-below = rw e (le-zero lower upper bottom top); adds = sizes-excess n (settledSizes (excess n) ps) ∙ s }
+    record {
+      not-above = rw e (le-self upper);
+      not-below = rw e (le-zero lower upper bottom top);
+      adds = sizes-excess n (settledSizes (excess n) ps) ∙ s;
+    }
 market-after upper lower ps top bottom (is-shortfall {n = n} a b) =
     let s = sum-settled (shortfall n) ps (share-shortfall upper lower ps top bottom n a b) in
     let e : sumℤ (after (shortfall n) ps) ≡ lower = sum-after (shortfall n) ps ∙ ap (λ (k : ℕ). sumℤ ps -ℤ negℤ (pos k)) s ∙ left-shortfall lower (sumℤ ps) (pos n) b in
-    record { not-above = rw e (le-zero lower upper bottom top); not-below = rw e (le-self lower); adds = sizes-shortfall n (settledSizes (shortfall n) ps) ∙ s }
+    record {
+      not-above = rw e (le-zero lower upper bottom top);
+      not-below = rw e (le-self lower);
+      adds = sizes-shortfall n (settledSizes (shortfall n) ps) ∙ s;
+    }
 
 -- ---- one user
 
 -- a position in range, by its size
-position-fit : (p : ℤ) → natAbs p ≤ 100_000_000 → positionFit p ≡ true
+position-fit : (p : ℤ) → natAbs p ≤ positionMost → positionFit p ≡ true
 unfolding positionFit
 position-fit p h = both-true (low p h) (high p h)
   where
-    low : (p : ℤ) → natAbs p ≤ 100_000_000 → leZ (negℤ (pos 100_000_000)) p ≡ true
+    low : (p : ℤ) → natAbs p ≤ positionMost → leZ (negℤ (pos positionMost)) p ≡ true
     low = lin1 _ (λ a b. simp diffs (omega linear))
 
-    high : (p : ℤ) → natAbs p ≤ 100_000_000 → leZ p (pos 100_000_000) ≡ true
+    high : (p : ℤ) → natAbs p ≤ positionMost → leZ p (pos positionMost) ≡ true
     high = lin1 _ (λ a b. simp diffs (omega linear))
 
 -- a sale q of at most the position, and of nothing where that is below zero
@@ -232,7 +247,11 @@ record Sale (p q : ℤ) : Type 0 where
 
 sale : (n : ℕ) (p : ℤ) → n ≤ natural p → Sale p (pos n)
 unfolding natural
-sale n (pos m) h = record { not-negative = le-leb 0 n (omega arith); at-most = λ e. le-leb n m h; nothing = λ e. ap pos (omega (arith, leb-true m 0 e)) }
+sale n (pos m) h = record {
+  not-negative = le-leb 0 n (omega arith);
+  at-most = λ e. le-leb n m h;
+  nothing = λ e. ap pos (omega (arith, leb-true m 0 e));
+}
 sale n (negsuc m) h = record { not-negative = le-leb 0 n (omega arith); at-most = λ e. not-both (sym e); nothing = λ e. ap pos (omega arith) }
 
 sell-above : (p q : ℤ) → leZ q p ≡ true → leZ (pos 0) (p -ℤ q) ≡ true
@@ -313,12 +332,14 @@ module _ (S n : ℕ) (p : ℤ) (fit : positionFit p ≡ true) where
       whole (pos m) h = refl
       whole (negsuc m) h = not-both (sym h)
 
-  user-shortfall : (e : ℕ) → n ≤ natural (negℤ p) → (n * S < e * natural (negℤ p) + S) × (e * natural (negℤ p) < n * S + S) → UserAccurate (shortfall e) S p (negℤ (pos n)) (p -ℤ negℤ (pos n))
+  user-shortfall : (e : ℕ) → n ≤ natural (negℤ p) → (n * S < e * natural (negℤ p) + S) × (e * natural (negℤ p) < n * S + S)
+      → UserAccurate (shortfall e) S p (negℤ (pos n)) (p -ℤ negℤ (pos n))
   unfolding caused signed total natural
   user-shortfall e le near =
       let s = sale n (negℤ p) le in
       let size = size-neg (pos n) in
-      user-accurate (shortfall e) S p (negℤ (pos n)) (λ h. ap negℤ (s .nothing (neg-le (pos 0) p (not-less p (pos 0) h)))) (ap (λ (m : ℕ). negℤ (pos m)) (sym size))
+      user-accurate (shortfall e) S p (negℤ (pos n)) (λ h. ap negℤ (s .nothing (neg-le (pos 0) p (not-less p (pos 0) h))))
+      (ap (λ (m : ℕ). negℤ (pos m)) (sym size))
       (λ h. rw size (subst (λ (m : ℕ). (n * S < e * m + S) × (e * m < n * S + S)) (whole p h) near)) fit (left-purchase p (pos n) s)
     where
       whole : (p : ℤ) → ltZ p (pos 0) ≡ true → natural (negℤ p) ≡ natAbs p
@@ -326,7 +347,8 @@ module _ (S n : ℕ) (p : ℤ) (fit : positionFit p ≡ true) where
       whole (negsuc m) h = refl
 
 -- ---- all users
-module _ (upper lower : ℤ) (ps : List ℤ) (top : leZ (pos 0) upper ≡ true) (bottom : leZ lower (pos 0) ≡ true) (fit : every positionFit ps ≡ true) where
+module _ (upper lower : ℤ) (ps : List ℤ) (top : leZ (pos 0) upper ≡ true) (bottom : leZ lower (pos 0) ≡ true)
+    (fit : every positionFit ps ≡ true) where
   module _ (u : ℕ) (h : u < length ps) where
     share-le : (i : Imbalance) → Shareable i ps → getD (settled (sizes i ps) (total i)) u 0 ≤ size i (getD ps u (pos 0))
     share-le i a = rw (size-at i ps u h) at (no-more-than-size (sizes i ps) (total i) (a .some) (a .enough) u)
@@ -343,16 +365,20 @@ module _ (upper lower : ℤ) (ps : List ℤ) (top : leZ (pos 0) upper ≡ true) 
     user-share (is-excess {n = e} a b) =
         let k = share-excess upper lower ps top bottom e a b in
         let p = getD ps u (pos 0) in
-        user-excess _ _ p (every-at positionFit ps u (pos 0) fit h) e (rw (size-excess e p) at (share-le (excess e) k)) (rw (size-excess e p) at (share-near (excess e) k))
+        user-excess _ _ p (every-at positionFit ps u (pos 0) fit h) e (rw (size-excess e p) at (share-le (excess e) k))
+        (rw (size-excess e p) at (share-near (excess e) k))
     user-share (is-shortfall {n = e} a b) =
         let k = share-shortfall upper lower ps top bottom e a b in
         let p = getD ps u (pos 0) in
-        user-shortfall _ _ p (every-at positionFit ps u (pos 0) fit h) e (rw (size-shortfall e p) at (share-le (shortfall e) k)) (rw (size-shortfall e p) at (share-near (shortfall e) k))
+        user-shortfall _ _ p (every-at positionFit ps u (pos 0) fit h) e (rw (size-shortfall e p) at (share-le (shortfall e) k))
+        (rw (size-shortfall e p) at (share-near (shortfall e) k))
 
   -- a place beyond the users
   user-none : (i : Imbalance) (S : ℕ) → UserAccurate i S (pos 0) (pos 0) (pos 0)
   unfolding caused signed natural
-  user-none i S = user-accurate i S (pos 0) (pos 0) (λ h. refl) (none i) (λ h. not-both (sym h ∙ never i)) (position-fit (pos 0) (omega arith)) (record { above = λ e. e; below = λ e. e; smaller = le-refl 0 })
+  user-none i S =
+      user-accurate i S (pos 0) (pos 0) (λ h. refl) (none i) (λ h. not-both (sym h ∙ never i))
+      (position-fit (pos 0) (omega arith)) (record { above = λ e. e; below = λ e. e; smaller = le-refl 0 })
     where
       none : (i : Imbalance) → pos 0 ≡ signed i 0
       none within = refl
@@ -364,11 +390,13 @@ module _ (upper lower : ℤ) (ps : List ℤ) (top : leZ (pos 0) upper ≡ true) 
       never (excess e) = refl
       never (shortfall e) = refl
 
-  user-any : {i : Imbalance} → View upper lower (sumℤ ps) i → (u : ℕ) → UserAccurate i (sum (sizes i ps)) (getD ps u (pos 0)) (getD (quantities i ps) u (pos 0)) (getD (after i ps) u (pos 0))
+  user-any : {i : Imbalance} → View upper lower (sumℤ ps) i → (u : ℕ)
+      → UserAccurate i (sum (sizes i ps)) (getD ps u (pos 0)) (getD (quantities i ps) u (pos 0)) (getD (after i ps) u (pos 0))
   unfolding settledSizes
   user-any {i} w u = go (ltb u (length ps)) refl
     where
-      go : (b : Bool) → ltb u (length ps) ≡ b → UserAccurate i (sum (sizes i ps)) (getD ps u (pos 0)) (getD (quantities i ps) u (pos 0)) (getD (after i ps) u (pos 0))
+      go : (b : Bool) → ltb u (length ps) ≡ b
+          → UserAccurate i (sum (sizes i ps)) (getD ps u (pos 0)) (getD (quantities i ps) u (pos 0)) (getD (after i ps) u (pos 0))
       go true e = let h = ltb-true u (length ps) e in rw (after-at i ps u h, quantity-at i ps u h) (user-share u h w)
       go false e =
           let h = ltb-false u (length ps) e in
@@ -383,4 +411,10 @@ module _ (upper lower : ℤ) (ps : List ℤ) (top : leZ (pos 0) upper ≡ true) 
   settles =
       let w = view upper lower (sumℤ ps) in
       let m = market-after upper lower ps top bottom w in
-      record { not-above = le-of-test (m .not-above); not-below = le-of-test (m .not-below); adds-up = m .adds; by-rules = quantity-at _ ps; each = user-any w }
+      record {
+        not-above = le-of-test (m .not-above);
+        not-below = le-of-test (m .not-below);
+        adds-up = m .adds;
+        by-rules = quantity-at _ ps;
+        each = user-any w;
+      }

@@ -60,8 +60,11 @@ above-lower = lin3 _ (λ a b c d e f. simp diffs (omega linear))
 below-upper : (upper lower m : ℤ) → leZ (pos 0) upper ≡ true → leZ lower (pos 0) ≡ true → ltZ m lower ≡ true → leZ m upper ≡ true
 below-upper = lin3 _ (λ a b c d e f. simp diffs (omega linear))
 
-pub tells : (upper lower m : ℤ) → leZ (pos 0) upper ≡ true → leZ lower (pos 0) ≡ true → (ps : List ℤ) {i : Imbalance} → View upper lower m i → OutcomeTells upper lower m (outcome i ps)
+pub tells : (upper lower m : ℤ) → leZ (pos 0) upper ≡ true → leZ lower (pos 0) ≡ true → (ps : List ℤ) {i : Imbalance}
+    → View upper lower m i → OutcomeTells upper lower m (outcome i ps)
 unfolding outcome
 tells upper lower m top bottom ps (is-within a b) = tells-within upper lower m (le-of-test b) (le-of-test a)
-tells upper lower m top bottom ps (is-excess a b) = rw b (tells-excess upper lower m (lt-of-test a) (le-of-test (above-lower upper lower m top bottom a)) _)
-tells upper lower m top bottom ps (is-shortfall a b) = rw b (tells-shortfall upper lower m (lt-of-test a) (le-of-test (below-upper upper lower m top bottom a)) _)
+tells upper lower m top bottom ps (is-excess a b) =
+    rw b (tells-excess upper lower m (lt-of-test a) (le-of-test (above-lower upper lower m top bottom a)) _)
+tells upper lower m top bottom ps (is-shortfall a b) =
+    rw b (tells-shortfall upper lower m (lt-of-test a) (le-of-test (below-upper upper lower m top bottom a)) _)

@@ -87,7 +87,9 @@ pub users-kept : (z : ℤ) (f : ZoneDay → ZoneDay) (d : Day) → withZoneDay z
 unfolding withZoneDay
 users-kept z f d = go (isZero z)
   where
-    go : (b : Bool) → (cond {A = Day} b (record { users = d .users; h = f (d .h); l = d .l }) (record { users = d .users; h = d .h; l = f (d .l) })) .users ≡ d .users
+    go : (b : Bool)
+        → (cond {A = Day} b (record { users = d .users; h = f (d .h); l = d .l }) (record { users = d .users; h = d .h; l = f (d .l) })) .users
+        ≡ d .users
     go true = refl
     go false = refl
 

@@ -15,8 +15,11 @@ unfoldable pub users : Day → ℕ
 users d = natural (d .users)
 
 -- "A Gas Day has 24 hours."
+abbrev pub hoursMost : ℕ
+hoursMost = 24
+
 unfoldable pub hoursOfDay : Day → ℤ
-hoursOfDay d = pos 24
+hoursOfDay d = pos hoursMost
 
 -- "for each zone, the hours done (0 to 24) and whether it is closed": 0 is H, 1 is L
 unfoldable pub zoneDay : ℤ → Day → ZoneDay

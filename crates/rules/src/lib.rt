@@ -1,6 +1,4 @@
 // The types of the Gas Day: the record, what a call is told, and what it answers. The rules are the definitions of specs/.
-pub mod defaults;
-pub mod limits;
 
 // Of one zone: the hours done, and whether it is closed.
 pub struct ZoneDay {

@@ -1,7 +1,3 @@
--- Why the settlement's steps leave what the rules name.
-mod Turning
-mod Words
-mod Booking
-mod OneSide
+-- Why the settlement of a zone leaves what the rules name.
 mod Users
 mod Tables

@@ -29,7 +29,8 @@ module _ (p e x t i : List ℤ) where
       ap (λ (y : ℤ). y +ℤ (getD e u (pos 0) +ℤ getD x u (pos 0) +ℤ getD t u (pos 0) +ℤ getD i u (pos 0))) (getD-take (length e) p u (pos 0) h))
 
   module _ (k : HourTerms) where
-    pub users-asked : (q m : List ℤ) (s : List ℕ) → Asks p e x t i k q m s → (n : ℕ) → n ≡ length e → (length (take n p) ≡ length e) × Asks (take n p) e x t i k q m s
+    pub users-asked : (q m : List ℤ) (s : List ℕ) → Asks p e x t i k q m s → (n : ℕ) → n ≡ length e
+        → (length (take n p) ≡ length e) × Asks (take n p) e x t i k q m s
     users-asked q m s a n en = rw en (long, asks)
       where
         b : Lent p e x t i
@@ -67,14 +68,24 @@ module _ (p e x t i : List ℤ) where
         go v =
             let ps = befores p e x t i in
             let l : length (afters k ps) ≡ length e = length-after (imbalance (k .upper) (k .lower) ps) ps ∙ length-befores p e x t i in
-            record { lists = rw befores-take at (v .lists); places = rw l (ap (λ (y : List ℤ). y ++ drop (length e) p) (rw befores-take at (v .places))) }
+            record {
+              lists = rw befores-take at (v .lists);
+              places = rw l (ap (λ (y : List ℤ). y ++ drop (length e) p) (rw befores-take at (v .places)));
+            }
 
 -- ---- the zone's part of the table
 module _ (tb e x t i : List ℤ) (k : HourTerms) (p' q' m' : List ℤ) (s s' : List ℕ) (r : Outcome) where
-  pub left-h : isZero (k .zone) ≡ true → ZoneLeaves (take 128 tb) p' e x t i k q' m' s s' r → TableLeaves tb (p' ++ drop 128 tb) e x t i k q' m' s s' r
-  left-h z v = record { lists = rw (part-h (k .zone) tb z) (v .lists); table = rw (with-h (k .zone) tb _ z, part-h (k .zone) tb z) (ap (λ (l : List ℤ). l ++ drop 128 tb) (v .places)) }
+  pub left-h : isZero (k .zone) ≡ true → ZoneLeaves (take 128 tb) p' e x t i k q' m' s s' r
+      → TableLeaves tb (p' ++ drop 128 tb) e x t i k q' m' s s' r
+  left-h z v = record {
+    lists = rw (part-h (k .zone) tb z) (v .lists);
+    table = rw (with-h (k .zone) tb _ z, part-h (k .zone) tb z) (ap (λ (l : List ℤ). l ++ drop 128 tb) (v .places));
+  }
 
   pub left-l : isZero (k .zone) ≡ false → ZoneLeaves (take 128 (drop 128 tb)) p' e x t i k q' m' s s' r
       → TableLeaves tb (take 128 tb ++ (p' ++ drop 128 (drop 128 tb))) e x t i k q' m' s s' r
   left-l z v =
-      record { lists = rw (part-l (k .zone) tb z) (v .lists); table = rw (with-l (k .zone) tb _ z, part-l (k .zone) tb z) (ap (λ (l : List ℤ). take 128 tb ++ (l ++ drop 128 (drop 128 tb))) (v .places)) }
+      record {
+        lists = rw (part-l (k .zone) tb z) (v .lists);
+        table = rw (with-l (k .zone) tb _ z, part-l (k .zone) tb z) (ap (λ (l : List ℤ). take 128 tb ++ (l ++ drop 128 (drop 128 tb))) (v .places));
+      }

@@ -2,7 +2,7 @@
 use mathlib.Core.Path.{_≡_, refl, sym, ap, ap₂, _∙_, subst}
 use mathlib.Core.Bool.{Bool, true, false, cond}
 use mathlib.Core.List.{List, [], _∷_, map, zipWith}
-use Prim.Native.Nat.{ℕ, zero, suc, _≤_}
+use Prim.Native.Nat.{ℕ, zero, suc, _*_, _≤_}
 use native.Mathlib.Omega.{arith}
 use native.Mathlib.Nat.{le-refl}
 use lib.IntN.{ℤ, pos, natAbs, zero-*ℤ, +ℤ-idr, _-ℤ_}
@@ -10,6 +10,7 @@ use lib.ListN.{length, getD, replicate, length-map}
 use Rattle.integers.specs.Lists.{sumℤ, AtMost}
 use Rattle.integers.proofs.Sizes.{size-sub}
 use Rattle.integers.proofs.Sums.{sum-bound, at-most-tail}
+use Rattle.rules.specs.Limits.{usersMost, positionMost, marketMost}
 use Rattle.rules.specs.declared.HourTerms.{HourTerms}
 use Rattle.rules.specs.declared.Marks.{Marks}
 use Rattle.rules.specs.declared.Outcome.{Outcome}
@@ -20,7 +21,9 @@ use Rattle.positions.specs.Before.{befores}
 use Rattle.positions.proofs.Before.{length-befores}
 use Rattle.rules.proofs.Accepted.{thresholds-sound}
 use Rattle.rules.proofs.Small.{positions-small, terms-small}
-use Rattle.settlement.specs.Steps.{side, SideAsks, SideLeaves, Asks, UsersLeave}
+use Rattle.sides.specs.Sides.{side, SideAsks, SideLeaves}
+use Rattle.sides.proofs.OneSide.{total-side}
+use Rattle.settlement.specs.Steps.{Asks, UsersLeave}
 
 -- ---- an hour within its thresholds settles nothing
 nothing : (ns : List ℕ) → map (signed within) ns ≡ replicate (length ns) (pos 0)
@@ -30,7 +33,9 @@ nothing (n ∷ ns) = ap (λ (l : List ℤ). pos 0 ∷ l) (nothing ns)
 
 no-quantities : (ps : List ℤ) → quantities within ps ≡ replicate (length ps) (pos 0)
 unfolding quantities
-no-quantities ps = nothing (settledSizes within ps) ∙ ap (λ (n : ℕ). replicate n (pos 0)) (sym (length-map (settledSizes within ps) (signed within)) ∙ length-quantities within ps)
+no-quantities ps =
+    nothing (settledSizes within ps)
+    ∙ ap (λ (n : ℕ). replicate n (pos 0)) (sym (length-map (settledSizes within ps) (signed within)) ∙ length-quantities within ps)
 
 no-moneys : (a b : ℤ) (n : ℕ) → moneys a b (replicate n (pos 0)) ≡ replicate n (pos 0)
 unfolding moneys moneyOf
@@ -51,34 +56,29 @@ size-le i p = go (caused i p)
     go true = le-refl (natAbs p)
     go false = omega arith
 
-sizes-small : (i : Imbalance) (ps : List ℤ) → AtMost 100_000_000 ps → (j : ℕ) → getD (sizes i ps) j 0 ≤ 100_000_000
+sizes-small : (i : Imbalance) (ps : List ℤ) → AtMost positionMost ps → (j : ℕ) → getD (sizes i ps) j 0 ≤ positionMost
 unfolding sizes
 sizes-small i [] s j = omega arith
 sizes-small i (p ∷ ps) s zero = omega (arith, size-le i p, s .at 0)
 sizes-small i (p ∷ ps) s (suc j) = sizes-small i ps (at-most-tail s) j
-
-total-side : (up : Bool) (n : ℕ) → total (side up n) ≡ n
-unfolding total side
-total-side true n = refl
-total-side false n = refl
 
 -- ---- by the positions before, z
 module _ {p e x t i : List ℤ} {k : HourTerms} {q m : List ℤ} {s : List ℕ} (a : Asks p e x t i k q m s) (z : List ℤ) (ez : z ≡ befores p e x t i) where
   z-long : length z ≡ length e
   z-long = ap length ez ∙ length-befores p e x t i
 
-  z-small : AtMost 100_000_000 z
+  z-small : AtMost positionMost z
   z-small = rw ez (positions-small (befores p e x t i) (a .positions))
 
-  pub sum-asked : (length z ≤ 128) × AtMost 100_000_000 z
+  pub sum-asked : (length z ≤ usersMost) × AtMost positionMost z
   sum-asked = (omega (arith, z-long, a .amounts .lent .few), z-small)
 
-  pub market-small : natAbs (sumℤ z) ≤ 12_800_000_000
+  pub market-small : natAbs (sumℤ z) ≤ marketMost
   market-small = omega (arith, sum-bound z z-small, sum-asked .0)
 
   -- a total is no larger than the market and its threshold together, and can be shared
   record Total (up : Bool) (n : ℕ) : Type 0 where
-    size : n ≤ 25_600_000_000
+    size : n ≤ 2 * marketMost
     shareable : Shareable (side up n) z
 
   of-view : (up : Bool) (n : ℕ) → View (k .upper) (k .lower) (sumℤ z) (side up n) → Total up n
@@ -102,7 +102,7 @@ module _ {p e x t i : List ℤ} {k : HourTerms} {q m : List ℤ} {s : List ℕ} 
     unfolding imbalance
     of-side = of-view up n (subst (View (k .upper) (k .lower) (sumℤ z)) (sym is) (view (k .upper) (k .lower) (sumℤ z)))
 
-    pub side-fits : n ≤ 25_600_000_000
+    pub side-fits : n ≤ 2 * marketMost
     side-fits = of-side .size
 
     pub side-asked : SideAsks up n z k q m s
@@ -134,7 +134,8 @@ module _ {p e x t i : List ℤ} {k : HourTerms} {q m : List ℤ} {s : List ℕ} 
 
   -- neither
   pub within-left : within ≡ imbalance (k .upper) (k .lower) z → (q' m' : List ℤ) (s' : List ℕ)
-      → q' ≡ replicate (length q) (pos 0) → m' ≡ replicate (length m) (pos 0) → s' ≡ replicate (length s) 0 → UsersLeave p z e x t i k q' m' s s' Within
+      → q' ≡ replicate (length q) (pos 0) → m' ≡ replicate (length m) (pos 0) → s' ≡ replicate (length s) 0
+      → UsersLeave p z e x t i k q' m' s s' Within
   unfolding outcome after
   within-left is q' m' s' eq eμ es =
       let lq : length q ≡ length z = a .quantities ∙ sym z-long in

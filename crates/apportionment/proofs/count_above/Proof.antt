@@ -25,8 +25,12 @@ abbrev remainder : tie.In-loop Inv-loop μ-loop → ℕ
 remainder c = getD (c .before .before .args .remainders .now) (c .before .loop .i) 0
 
 unit : (c : tie.In-loop Inv-loop μ-loop) (base : ℕ) → base + c .before .before .args .at ≡ 9223372036854775807
-    → ((remainder c + base) / 9223372036854775808 ≡ bit (ltb (c .before .before .args .at) (remainder c))) × (bit (ltb (c .before .before .args .at) (remainder c)) ≤ 1)
-unit c base e = (top-bit (remainder c) (c .before .before .args .at) base e (c .before .before .pre .1 .at (c .before .loop .i)), bit-ltb-le (c .before .before .args .at) (remainder c))
+    → ((remainder c + base) / 9223372036854775808 ≡ bit (ltb (c .before .before .args .at) (remainder c)))
+    × (bit (ltb (c .before .before .args .at) (remainder c)) ≤ 1)
+unit c base e = (
+  top-bit (remainder c) (c .before .before .args .at) base e (c .before .before .pre .1 .at (c .before .loop .i)),
+  bit-ltb-le (c .before .before .args .at) (remainder c),
+)
 
 sub-base : tie.Need-sub-base Inv-loop μ-loop
 sub-base c = search needs

@@ -10,7 +10,8 @@ use Rattle.apportionment.proofs.find_cut.Statement.{statement}
 use Rattle.apportionment.proofs.find_cut.Tie as tie
 
 abbrev Inv-loop : tie.InvT-loop
-Inv-loop remainders spare low top lo₀ hi₀ over₀ lo hi over = (lo < hi) × (spare ≤ above remainders lo) × (over ≡ above remainders hi) × (over ≤ spare) × (hi ≤ top)
+Inv-loop remainders spare low top lo₀ hi₀ over₀ lo hi over =
+    (lo < hi) × (spare ≤ above remainders lo) × (over ≡ above remainders hi) × (over ≤ spare) × (hi ≤ top)
 
 abbrev μ-loop : tie.MeasureT-loop
 μ-loop remainders spare low top lo₀ hi₀ over₀ lo hi over = hi - lo
@@ -19,7 +20,9 @@ returns : tie.Need-returns Inv-loop μ-loop
 returns c = let s = c .before .before in (record { adds = omega (arith, s .pre .none); fits = omega arith }, s .pre .small)
 
 loop-holds : tie.Need-loop-holds Inv-loop μ-loop
-loop-holds c = let s = c .before .before in (cut-begins (s .args .remainders .now) _ _ _ (s .pre) (omega arith), s .pre .enough, sym (s .pre .none), omega arith, omega arith)
+loop-holds c =
+    let s = c .before .before in
+    (cut-begins (s .args .remainders .now) _ _ _ (s .pre) (omega arith), s .pre .enough, sym (s .pre .none), omega arith, omega arith)
 
 sub-loop : tie.Need-sub-loop Inv-loop μ-loop
 sub-loop c = search needs
@@ -34,7 +37,9 @@ count-above-requires : tie.Need-count-above-requires Inv-loop μ-loop
 count-above-requires c κs = let s = c .before .before .before .before in (omega (arith, s .pre .small), s .pre .bounded)
 
 returns-2 : tie.Need-returns-2 Inv-loop μ-loop
-returns-2 c = let s = c .before .before .before .before .before .before in (record { adds = omega arith; fits = omega arith }, omega (arith, s .pre .small))
+returns-2 c =
+    let s = c .before .before .before .before .before .before in
+    (record { adds = omega arith; fits = omega arith }, omega (arith, s .pre .small))
 
 loop-less : tie.Need-loop-less Inv-loop μ-loop
 loop-less c = search needs

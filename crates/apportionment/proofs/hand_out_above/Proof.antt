@@ -15,7 +15,8 @@ use Rattle.apportionment.proofs.hand_out_above.Statement.{statement}
 use Rattle.apportionment.proofs.hand_out_above.Tie as tie
 
 abbrev Inv-loop : tie.InvT-loop
-Inv-loop remainders at spare out₀ base i₀ out i = (i ≤ length remainders) × (base + at ≡ 9223372036854775807) × Written (raisedBy remainders at 0 out₀) out₀ out i
+Inv-loop remainders at spare out₀ base i₀ out i =
+    (i ≤ length remainders) × (base + at ≡ 9223372036854775807) × Written (raisedBy remainders at 0 out₀) out₀ out i
 
 abbrev μ-loop : tie.MeasureT-loop
 μ-loop remainders at spare out₀ base i₀ out i = length remainders - i
@@ -24,10 +25,12 @@ abbrev μ-loop : tie.MeasureT-loop
 abbrev start : tie.In-loop Inv-loop μ-loop → tie.Start Inv-loop μ-loop
 start c = c .before .before .before
 
-room : (c : tie.In-loop Inv-loop μ-loop) → (c .before .loop .i < length (start c .args .out .now)) × (length (c .before .loop .out) ≡ length (start c .args .out .now))
+room : (c : tie.In-loop Inv-loop μ-loop)
+    → (c .before .loop .i < length (start c .args .out .now)) × (length (c .before .loop .out) ≡ length (start c .args .out .now))
 room c = (omega (arith, start c .pre .long), c .before .loop .inv .2 .long)
 
-old : (c : tie.In-loop Inv-loop μ-loop) → getD (c .before .loop .out) (c .before .loop .i) (pos 0) ≡ getD (start c .args .out .now) (c .before .loop .i) (pos 0)
+old : (c : tie.In-loop Inv-loop μ-loop)
+    → getD (c .before .loop .out) (c .before .loop .i) (pos 0) ≡ getD (start c .args .out .now) (c .before .loop .i) (pos 0)
 old c =
     let a = start c .args in
     let l = c .before .loop in
@@ -38,7 +41,10 @@ remainder c = getD (start c .args .remainders .now) (c .before .loop .i) 0
 
 unit : (c : tie.In-loop Inv-loop μ-loop) (base : ℕ) → base + start c .args .at ≡ 9223372036854775807
     → ((remainder c + base) / 9223372036854775808 ≡ bit (ltb (start c .args .at) (remainder c))) × (bit (ltb (start c .args .at) (remainder c)) ≤ 1)
-unit c base e = (top-bit (remainder c) (start c .args .at) base e (start c .pre .bounded .at (c .before .loop .i)), bit-ltb-le (start c .args .at) (remainder c))
+unit c base e = (
+  top-bit (remainder c) (start c .args .at) base e (start c .pre .bounded .at (c .before .loop .i)),
+  bit-ltb-le (start c .args .at) (remainder c),
+)
 
 sub-base : tie.Need-sub-base Inv-loop μ-loop
 sub-base c = search needs
@@ -66,8 +72,10 @@ slice-copy-out-plus c = omega (arith, room (c .before))
 
 plus-requires : tie.Need-plus-requires Inv-loop μ-loop
 plus-requires c κs =
-    let d = c .before .before in
-    (read-le (getD (d .before .loop .out) (d .before .loop .i) (pos 0)) _ (rw (old d) (start d .pre .small (d .before .loop .i))), omega (arith, unit d _ (d .before .loop .inv .1)))
+    let d = c .before .before in (
+      read-le (getD (d .before .loop .out) (d .before .loop .i) (pos 0)) _ (rw (old d) (start d .pre .small (d .before .loop .i))),
+      omega (arith, unit d _ (d .before .loop .inv .1)),
+    )
 
 mul-t17 : tie.Need-mul-t17 Inv-loop μ-loop
 mul-t17 c = search needs
@@ -91,7 +99,8 @@ loop-again c =
     let v = rw (back _ (c .before .plus-arg .given), old d, unit d _ (l .inv .1) .0, taken-above r (a .at) (l .i)) at (c .plus .ensures) in (
       omega arith,
       l .inv .1,
-      written-next _ o (l .out) (l .i) (l .inv .2) (raised-length r (a .at) 0 o) (pos 0) _ (omega (arith, room d)) (back _ (c .plus .ok) ∙ v ∙ sym (raised-at r (a .at) 0 o (l .i) (omega (arith, room d)))),
+      written-next _ o (l .out) (l .i) (l .inv .2) (raised-length r (a .at) 0 o) (pos 0) _ (omega (arith, room d))
+          (back _ (c .plus .ok) ∙ v ∙ sym (raised-at r (a .at) 0 o (l .i) (omega (arith, room d)))),
     )
 
 same-length : tie.Need-same-length Inv-loop μ-loop
@@ -101,7 +110,8 @@ returns : tie.Need-returns Inv-loop μ-loop
 returns c =
     let a = c .before .before .before .args in
     let l = c .before .loop in
-    written-all _ (a .out .now) (l .out) (l .i) (l .inv .2) (raised-length (a .remainders .now) (a .at) 0 (a .out .now)) (omega (arith, c .before .before .before .pre .long))
+    written-all _ (a .out .now) (l .out) (l .i) (l .inv .2) (raised-length (a .remainders .now) (a .at) 0 (a .out .now))
+    (omega (arith, c .before .before .before .pre .long))
 
 pub hand-out-above-spec : {M : Type 1} → statement M
 hand-out-above-spec =

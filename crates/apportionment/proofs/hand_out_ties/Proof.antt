@@ -18,7 +18,9 @@ use Rattle.apportionment.proofs.hand_out_ties.Statement.{statement}
 use Rattle.apportionment.proofs.hand_out_ties.Tie as tie
 
 abbrev Inv-loop : tie.InvT-loop
-Inv-loop remainders at ties spare out₀ left₀ units₀ i₀ out left units i = (i ≤ length remainders) × (left ≡ ties - same (take i remainders) at) × (units + got remainders at ties i ≡ spare) × Written (raisedBy remainders at ties out₀) out₀ out i
+Inv-loop remainders at ties spare out₀ left₀ units₀ i₀ out left units i =
+    (i ≤ length remainders) × (left ≡ ties - same (take i remainders) at) × (units + got remainders at ties i ≡ spare)
+    × Written (raisedBy remainders at ties out₀) out₀ out i
 
 abbrev μ-loop : tie.MeasureT-loop
 μ-loop remainders at ties spare out₀ left₀ units₀ i₀ out left units i = length remainders - i
@@ -32,14 +34,19 @@ room : (c : tie.In-loop Inv-loop μ-loop)
     × (length (c .before .loop .out) ≡ length (start c .args .out .now))
 room c =
     let a = start c .args in
-    let l = c .before .loop in
-    (got-less (a .remainders .now) (a .spare) (a .at) (a .ties) (start c .pre .cut) (l .i) (omega arith) (l .inv .0), start c .pre .long, l .inv .3 .long)
+    let l = c .before .loop in (
+      got-less (a .remainders .now) (a .spare) (a .at) (a .ties) (start c .pre .cut) (l .i) (omega arith) (l .inv .0),
+      start c .pre .long,
+      l .inv .3 .long,
+    )
 
-old : (c : tie.In-loop Inv-loop μ-loop) → getD (c .before .loop .out) (c .before .loop .i) (pos 0) ≡ getD (start c .args .out .now) (c .before .loop .i) (pos 0)
+old : (c : tie.In-loop Inv-loop μ-loop)
+    → getD (c .before .loop .out) (c .before .loop .i) (pos 0) ≡ getD (start c .args .out .now) (c .before .loop .i) (pos 0)
 old c =
     let a = start c .args in
     let l = c .before .loop in
-    written-elem _ (a .out .now) (l .out) (l .i) (l .inv .3) (raised-length (a .remainders .now) (a .at) (a .ties) (a .out .now)) (pos 0) (omega (arith, room c))
+    written-elem _ (a .out .now) (l .out) (l .i) (l .inv .3) (raised-length (a .remainders .now) (a .at) (a .ties) (a .out .now))
+    (pos 0) (omega (arith, room c))
 
 abbrev remainder : tie.In-loop Inv-loop μ-loop → ℕ
 remainder c = getD (start c .args .remainders .now) (c .before .loop .i) 0
@@ -48,7 +55,8 @@ abbrev given : tie.In-loop Inv-loop μ-loop → ℕ
 given c = bit (taken (start c .args .remainders .now) (start c .args .at) (start c .args .ties) (c .before .loop .i))
 
 unit : (c : tie.In-loop Inv-loop μ-loop) (u : ℕ)
-    → u ≡ bit (ltb (start c .args .at) (remainder c) || eqb (start c .args .at) (remainder c) && ltb 0 (c .before .loop .left)) → (u ≡ given c) × (u ≤ 1)
+    → u ≡ bit (ltb (start c .args .at) (remainder c) || eqb (start c .args .at) (remainder c) && ltb 0 (c .before .loop .left))
+    → (u ≡ given c) × (u ≤ 1)
 unit c u e =
     let a = start c .args in
     let l = c .before .loop in
@@ -79,8 +87,10 @@ slice-copy-out-plus c = omega (arith, room (c .before .before .before))
 
 plus-requires : tie.Need-plus-requires Inv-loop μ-loop
 plus-requires c κs =
-    let d = c .before .before .before .before in
-    (read-le (getD (d .before .loop .out) (d .before .loop .i) (pos 0)) _ (rw (old d) (start d .pre .small (d .before .loop .i))), omega (arith, unit d _ (c .before .before .unit-for .ensures)))
+    let d = c .before .before .before .before in (
+      read-le (getD (d .before .loop .out) (d .before .loop .i) (pos 0)) _ (rw (old d) (start d .pre .small (d .before .loop .i))),
+      omega (arith, unit d _ (c .before .before .unit-for .ensures)),
+    )
 
 mul-t18 : tie.Need-mul-t18 Inv-loop μ-loop
 mul-t18 c = omega (arith, room (c .before .before .before .before .before))
@@ -109,7 +119,8 @@ loop-again c =
       omega (arith, room d),
       omega (arith, count-step (λ x. eqb (a .at) x) r (l .i) 0 (room d .0), c .before .before .ties-after .ensures),
       omega (arith, got-next r (a .at) (a .ties) (l .i), u),
-      written-next _ o (l .out) (l .i) (l .inv .3) (raised-length r (a .at) (a .ties) o) (pos 0) _ (omega (arith, room d)) (back _ (c .plus .ok) ∙ v ∙ sym (raised-at r (a .at) (a .ties) o (l .i) (omega (arith, room d)))),
+      written-next _ o (l .out) (l .i) (l .inv .3) (raised-length r (a .at) (a .ties) o) (pos 0) _ (omega (arith, room d))
+          (back _ (c .plus .ok) ∙ v ∙ sym (raised-at r (a .at) (a .ties) o (l .i) (omega (arith, room d)))),
     )
 
 same-length : tie.Need-same-length Inv-loop μ-loop

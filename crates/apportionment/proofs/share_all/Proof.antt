@@ -3,6 +3,7 @@ use mathlib.Core.Path.{_≡_, _∙_}
 use lib.ListN.{length, getD}
 use Rattle.integers.proofs.Machine.{back}
 use Rattle.largest_remainder.specs.Rule.{whole}
+use Rattle.rules.specs.Limits.{marketMost}
 use Rattle.apportionment.proofs.Sharing.{Sharing, sharing-none, sharing-asks, sharing-whole, sharing-fraction, sharing-given, sharing-next, sharing-all}
 use Prim.Native.Nat.{ℕ, _*_, _+_, _-_, _/_, _≤_, _<_}
 use borrow.Author.Needs.{needs}
@@ -23,8 +24,10 @@ start c = c .before .before .before
 turn : (c : tie.In-loop Inv-loop μ-loop) → c .before .loop .i < length (start c .args .sizes .now)
 turn c = omega (arith, c .before .loop .inv .fractions .long)
 
-whole-here : (c : tie.In-loop Inv-loop μ-loop) (w : ℕ) → w ≡ start c .args .total * getD (c .before .loop .sizes) (c .before .loop .i) 0 / start c .args .sum-of-sizes
-    → (w ≡ whole (start c .args .sizes .now) (start c .args .total) (getD (start c .args .sizes .now) (c .before .loop .i) 0)) × (c .before .loop .given + w ≤ 12800000000)
+whole-here : (c : tie.In-loop Inv-loop μ-loop) (w : ℕ)
+    → w ≡ start c .args .total * getD (c .before .loop .sizes) (c .before .loop .i) 0 / start c .args .sum-of-sizes
+    → (w ≡ whole (start c .args .sizes .now) (start c .args .total) (getD (start c .args .sizes .now) (c .before .loop .i) 0))
+    × (c .before .loop .given + w ≤ marketMost)
 whole-here c w q =
     let s = start c in
     let e = sharing-whole (s .pre .1 .0) (s .pre .0) (c .before .loop .inv) (turn c) _ (s .pre .1 .1) w q in

@@ -36,8 +36,18 @@ first-requires-3 c κs = search needs
 returns : tie.Need-returns
 unfolding formCause zoneOpen
 returns c =
-    simp
-    (c .first3 .ensures, c .before .first2 .ensures, c .before .before .first .ensures, c .before .before .before .refusal4 .ensures, c .before .before .before .before .refusal3 .ensures, c .before .before .before .before .before .refusal2 .ensures, c .before .before .before .before .before .before .zone-fit .ensures, c .before .before .before .before .before .before .before .refusal .ensures, c .before .before .before .before .before .before .before .before .is-closed .ensures, read (c .before .before .before .before .before .before .before .before .before .fits .zone))
+    simp (
+      c .first3 .ensures,
+      c .before .first2 .ensures,
+      c .before .before .first .ensures,
+      c .before .before .before .refusal4 .ensures,
+      c .before .before .before .before .refusal3 .ensures,
+      c .before .before .before .before .before .refusal2 .ensures,
+      c .before .before .before .before .before .before .zone-fit .ensures,
+      c .before .before .before .before .before .before .before .refusal .ensures,
+      c .before .before .before .before .before .before .before .before .is-closed .ensures,
+      read (c .before .before .before .before .before .before .before .before .before .fits .zone),
+    )
 
 pub form-cause-spec : {M : Type 1} → statement M
 form-cause-spec =

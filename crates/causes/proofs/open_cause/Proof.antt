@@ -22,7 +22,15 @@ first-requires c κs = search needs
 
 returns : tie.Need-returns
 unfolding openCause tableLong
-returns c = simp (c .first .ensures, c .before .refusal2 .ensures, c .before .before .same .ensures, c .before .before .before .refusal .ensures, c .before .before .before .before .users-fit .ensures, read (c .before .before .before .before .before .fits .users))
+returns c =
+    simp (
+      c .first .ensures,
+      c .before .refusal2 .ensures,
+      c .before .before .same .ensures,
+      c .before .before .before .refusal .ensures,
+      c .before .before .before .before .users-fit .ensures,
+      read (c .before .before .before .before .before .fits .users),
+    )
 
 pub open-cause-spec : {M : Type 1} → statement M
 open-cause-spec =

@@ -24,7 +24,15 @@ returns : tie.Need-returns
 unfolding thresholdsCause
 returns c =
     let f = c .before .before .before .before .before .fits in
-    simp (c .first .ensures, c .before .refusal2 .ensures, c .before .before .month-fit .ensures, c .before .before .before .refusal .ensures, c .before .before .before .before .zone-fit .ensures, read (f .zone), read (f .month))
+    simp (
+      c .first .ensures,
+      c .before .refusal2 .ensures,
+      c .before .before .month-fit .ensures,
+      c .before .before .before .refusal .ensures,
+      c .before .before .before .before .zone-fit .ensures,
+      read (f .zone),
+      read (f .month),
+    )
 
 pub thresholds-cause-spec : {M : Type 1} → statement M
 thresholds-cause-spec =

@@ -1,5 +1,5 @@
 -- Assumes nothing.
-use Rattle.gas_day_c.proofs.Guarantees.{odd-mark-refused}
+use Rattle.flat.proofs.Guarantees.{odd-mark-refused}
 use Rattle.certificate.proofs.a_record_with_an_odd_mark_is_refused.Statement.{statement}
 use Rattle.certificate.proofs.a_record_with_an_odd_mark_is_refused.Tie as tie
 

@@ -2,6 +2,7 @@
 use mathlib.Core.Path.{_≡_, ap, _∙_}
 use mathlib.Core.Bool.{true}
 use Rattle.integers.proofs.Machine.{read, back, read-le}
+use Rattle.rules.specs.Limits.{positionMost}
 use lib.IntN.{pos, negℤ}
 use lib.Signed.{ltZ}
 use Rattle.closing.specs.Steps.{boughtOf}
@@ -13,7 +14,7 @@ below-zero : (c : tie.Then1) → ltZ (c .before .args .quantity) (pos 0) ≡ tru
 below-zero c = rw (read (c .before .fits .quantity)) at (c .if1 .taken)
 
 negated-requires : tie.Need-negated-requires
-negated-requires c κs = omega (arith, read-le (c .before .args .quantity) 100_000_000 (c .before .pre))
+negated-requires c κs = omega (arith, read-le (c .before .args .quantity) positionMost (c .before .pre))
 
 returns : tie.Need-returns
 unfolding boughtOf

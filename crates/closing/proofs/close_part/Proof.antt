@@ -3,6 +3,7 @@ use mathlib.Core.Path.{_≡_, _∙_}
 use Prim.Native.Nat.{_-_}
 use lib.ListN.{length}
 use Rattle.integers.proofs.Machine.{read, back, read-le, fits}
+use Rattle.rules.specs.Limits.{priceMost}
 use Rattle.rules.proofs.Small.{prices-small}
 use Rattle.closing.proofs.Parts.{copy-asked, quantity-asked, money-asked, part-left}
 use borrow.Author.Needs.{needs}
@@ -34,15 +35,23 @@ money-all-requires c κs =
     let s = start d in
     let k = s .args .terms in
     let b = prices-small _ _ (s .pre .prices) in
-    let e = read-le (k .«excess_price») 10_000_000 (b .excess) in
-    let f = read-le (k .«shortfall_price») 10_000_000 (b .shortfall) in
-    (omega (arith, e, f), omega (arith, e, f), money-asked (s .pre) _ (count d) _ (d .copy-all .ensures), quantity-asked (s .pre) _ (count d) _ (d .copy-all .ensures) .1)
+    let e = read-le (k .«excess_price») priceMost (b .excess) in
+    let f = read-le (k .«shortfall_price») priceMost (b .shortfall) in (
+      omega (arith, e, f),
+      omega (arith, e, f),
+      money-asked (s .pre) _ (count d) _ (d .copy-all .ensures),
+      quantity-asked (s .pre) _ (count d) _ (d .copy-all .ensures) .1,
+    )
 
 traded-all-requires : tie.Need-traded-all-requires
-traded-all-requires c κs = let d = c .before .before .before .before .before .before .before .before in quantity-asked (start d .pre) _ (count d) _ (d .copy-all .ensures)
+traded-all-requires c κs =
+    let d = c .before .before .before .before .before .before .before .before in
+    quantity-asked (start d .pre) _ (count d) _ (d .copy-all .ensures)
 
 traded-all-requires-2 : tie.Need-traded-all-requires-2
-traded-all-requires-2 c κs = let d = c .before .before .before .before .before .before .before .before .before .before in quantity-asked (start d .pre) _ (count d) _ (d .copy-all .ensures)
+traded-all-requires-2 c κs =
+    let d = c .before .before .before .before .before .before .before .before .before .before in
+    quantity-asked (start d .pre) _ (count d) _ (d .copy-all .ensures)
 
 clear-requires : tie.Need-clear-requires
 clear-requires c κs = search needs

@@ -9,6 +9,7 @@ use mir.Val.{toZ}
 use Rattle.integers.proofs.Machine.{read, back, read-le}
 use Rattle.integers.proofs.Counts.{getD-map}
 use Rattle.integers.proofs.Passes.{Written, written-none, written-next, written-all, read-elem}
+use Rattle.rules.specs.Limits.{priceMost}
 use Rattle.rules.specs.Market.{moneyOf, moneys}
 use borrow.Author.Needs.{needs}
 use native.Mathlib.Omega.{arith}
@@ -16,7 +17,8 @@ use Rattle.closing.proofs.money_all.Statement.{statement}
 use Rattle.closing.proofs.money_all.Tie as tie
 
 abbrev Inv-loop : tie.InvT-loop
-Inv-loop excess-price shortfall-price quantity money₀ i₀ money i = (i ≤ length quantity) × Written (map (moneyOf (toZ w64 excess-price) (toZ w64 shortfall-price)) quantity) money₀ money i
+Inv-loop excess-price shortfall-price quantity money₀ i₀ money i =
+    (i ≤ length quantity) × Written (map (moneyOf (toZ w64 excess-price) (toZ w64 shortfall-price)) quantity) money₀ money i
 
 abbrev μ-loop : tie.MeasureT-loop
 μ-loop excess-price shortfall-price quantity money₀ i₀ money i = length quantity - i
@@ -32,8 +34,11 @@ shared-slice-copy-out-money-of c = search needs
 
 money-of-requires : tie.Need-money-of-requires Inv-loop μ-loop
 money-of-requires c κs =
-    let s = c .before .before .before in
-    (read-le (s .args .excess-price) 10_000_000 (s .pre .0), read-le (s .args .shortfall-price) 10_000_000 (s .pre .1), read-elem (s .pre .3) (c .before .before .loop .i))
+    let s = c .before .before .before in (
+      read-le (s .args .excess-price) priceMost (s .pre .0),
+      read-le (s .args .shortfall-price) priceMost (s .pre .1),
+      read-elem (s .pre .3) (c .before .before .loop .i),
+    )
 
 mul-t11 : tie.Need-mul-t11 Inv-loop μ-loop
 mul-t11 c = search needs

@@ -11,6 +11,7 @@ use Rattle.integers.specs.Lists.{sumℤ}
 use Rattle.integers.proofs.Machine.{back}
 use Rattle.integers.proofs.Counts.{getD-map}
 use Rattle.integers.proofs.Passes.{added-fits, added-next, read-elem}
+use Rattle.rules.specs.Limits.{positionMost}
 use Rattle.closing.specs.Steps.{tradedOf}
 use Rattle.closing.proofs.Sizes.{at-most-traded}
 use borrow.Author.Needs.{needs}
@@ -24,7 +25,10 @@ Inv-loop sale quantity sum₀ i₀ sum i = (i ≤ length quantity) × (toZ w64 s
 abbrev μ-loop : tie.MeasureT-loop
 μ-loop sale quantity sum₀ i₀ sum i = length quantity - i
 
-size : (c : tie.After-traded-of Inv-loop μ-loop) → toZ w64 (ofZ w64 (c .traded-of .result)) ≡ getD (map (tradedOf (c .before .before .before .before .args .sale)) (c .before .before .before .before .args .quantity .now)) (c .before .before .before .loop .i) (pos 0)
+size : (c : tie.After-traded-of Inv-loop μ-loop)
+    → toZ w64 (ofZ w64 (c .traded-of .result))
+    ≡ getD (map (tradedOf (c .before .before .before .before .args .sale)) (c .before .before .before .before .args .quantity .now))
+    (c .before .before .before .loop .i) (pos 0)
 size c =
     let a = c .before .before .before .before .args in
     back _ (c .traded-of .ok) ∙ rw (back _ (c .before .traded-of-arg .given)) at (c .traded-of .ensures)
@@ -48,7 +52,8 @@ add-sum c =
     let s = c .before .before .before .before in
     let l = c .before .before .before .loop in
     let a = s .args in
-    added-fits (map (tradedOf (a .sale)) (a .quantity .now)) (l .i) (l .sum) _ (l .inv .1) (size c) 100_000_000 (at-most-traded (a .sale) (a .quantity .now) (s .pre .1)) (omega arith)
+    added-fits (map (tradedOf (a .sale)) (a .quantity .now)) (l .i) (l .sum) _ (l .inv .1) (size c) positionMost
+    (at-most-traded (a .sale) (a .quantity .now) (s .pre .1)) (omega arith)
 
 add-i : tie.Need-add-i Inv-loop μ-loop
 add-i c = search needs
@@ -67,7 +72,8 @@ returns : tie.Need-returns Inv-loop μ-loop
 returns c =
     let l = c .before .loop in
     let a = c .before .before .args in
-    l .inv .1 ∙ ap sumℤ (take-all (l .i) (map (tradedOf (a .sale)) (a .quantity .now)) (omega (arith, length-map (a .quantity .now) (tradedOf (a .sale)))))
+    l .inv .1
+    ∙ ap sumℤ (take-all (l .i) (map (tradedOf (a .sale)) (a .quantity .now)) (omega (arith, length-map (a .quantity .now) (tradedOf (a .sale)))))
 
 pub traded-all-spec : {M : Type 1} → statement M
 traded-all-spec =

@@ -1,6 +1,7 @@
 -- By the kind. Assumes nothing.
 use mathlib.Core.Path.{ap, _∙_}
 use Rattle.integers.proofs.Machine.{read, back, read-le}
+use Rattle.rules.specs.Limits.{positionMost}
 use Rattle.closing.specs.Steps.{soldOf, boughtOf, tradedOf}
 use borrow.Author.Needs.{needs}
 use Rattle.closing.proofs.traded_of.Statement.{statement}
@@ -10,7 +11,7 @@ sold-of-requires : tie.Need-sold-of-requires
 sold-of-requires c κs = search needs
 
 bought-of-requires : tie.Need-bought-of-requires
-bought-of-requires c κs = read-le (c .before .args .quantity) 100_000_000 (c .before .pre)
+bought-of-requires c κs = read-le (c .before .args .quantity) positionMost (c .before .pre)
 
 returns : tie.Need-returns
 unfolding tradedOf

@@ -25,7 +25,10 @@ same-length-3 : tie.Need-same-length-3
 same-length-3 c = search needs
 
 returns : tie.Need-returns
-returns c = rw (c .refusal .ensures) (refused _ _ (given (c .before .before .before .before .before .before)) _ (c .before .before .closing-cause .ensures) (c .before .if1 .taken))
+returns c =
+    let k = c .before .before in
+    rw (c .refusal .ensures)
+    (refused _ _ (given (k .before .before .before .before)) _ (k .closing-cause .ensures) (c .before .if1 .taken))
 
 close-table-requires : tie.Need-close-table-requires
 close-table-requires c κs =

@@ -11,7 +11,8 @@ use Rattle.gas_day.proofs.default_thresholds.Tie as tie
 cause : (c : tie.After-thresholds-cause) → c .thresholds-cause .result ≡ thresholdsCause (c .before .args .month) (c .before .args .zone)
 cause c = rw (read (c .before .fits .month), read (c .before .fits .zone)) at (c .thresholds-cause .ensures)
 
-upper : (c : tie.After-upper-default) → c .upper-default .result ≡ upperDefault (c .before .before .before .args .month) (c .before .before .before .args .zone)
+upper : (c : tie.After-upper-default)
+    → c .upper-default .result ≡ upperDefault (c .before .before .before .args .month) (c .before .before .before .args .zone)
 upper c = rw (read (c .before .before .before .fits .month), read (c .before .before .before .fits .zone)) at (c .upper-default .ensures)
 
 thresholds-cause-requires : tie.Need-thresholds-cause-requires
@@ -21,7 +22,11 @@ returns : tie.Need-returns
 returns c = no-defaults _ _ _ (cause (c .before)) (c .if1 .taken)
 
 upper-default-requires : tie.Need-upper-default-requires
-upper-default-requires c κs = rw (read (c .before .before .fits .month), read (c .before .before .fits .zone)) (month-and-zone _ _ _ (cause (c .before)) (c .if1 .left))
+upper-default-requires c κs =
+    rw (
+      read (c .before .before .fits .month),
+      read (c .before .before .fits .zone),
+    ) (month-and-zone _ _ _ (cause (c .before)) (c .if1 .left))
 
 negated-requires : tie.Need-negated-requires
 unfolding upperDefault

@@ -31,7 +31,8 @@ same-length-2 c = search needs
 returns-2 : tie.Need-returns-2
 returns-2 c =
     let s = c .before .before .before .before in
-    opened _ _ _ (cause (s .before)) (s .if1 .left) _ _ (rw (read (s .before .before .before .fits .users)) at (c .new-day .ensures)) (c .before .before .clear .ensures)
+    opened _ _ _ (cause (s .before)) (s .if1 .left) _ _ (rw (read (s .before .before .before .fits .users)) at (c .new-day .ensures))
+    (c .before .before .clear .ensures)
 
 pub open-spec : {M : Type 1} → statement M
 open-spec =

@@ -30,7 +30,10 @@ same-length-4 : tie.Need-same-length-4
 same-length-4 c = search needs
 
 returns : tie.Need-returns
-returns c = rw (c .refusal .ensures) (refused _ _ (given (c .before .before .before .before .before .before .before .before)) _ (c .before .before .hour-cause .ensures) (c .before .if1 .taken))
+returns c =
+    let k = c .before .before in
+    rw (c .refusal .ensures)
+    (refused _ _ (given (k .before .before .before .before .before .before)) _ (k .hour-cause .ensures) (c .before .if1 .taken))
 
 settle-table-requires : tie.Need-settle-table-requires
 settle-table-requires c κs =
@@ -58,7 +61,8 @@ returns-2 : tie.Need-returns-2
 returns-2 c =
     let k = c .before .before .before .before .before .before .before .before .before .before .before .before in
     let s = k .before .before .before .before .before .before .before in
-    done _ _ (given s) _ (k .before .hour-cause .ensures) (k .if1 .left) _ _ _ _ _ _ (c .before .before .before .before .before .before .before .settle-table .ensures)
+    done _ _ (given s) _ (k .before .hour-cause .ensures) (k .if1 .left) _ _ _ _ _ _
+    (c .before .before .before .before .before .before .before .settle-table .ensures)
     (rw (back (s .args .terms .zone) (c .before .struct-told .given .0 .1)) at (c .day-after-hour .ensures))
 
 pub settle-hour-spec : {M : Type 1} → statement M

@@ -1,6 +1,6 @@
 -- The wrapped call, and its answer for C. Assumes nothing.
 use mathlib.Core.Path.{ap, _∙_}
-use Rattle.gas_day_c.specs.Flat.{flatThresholds}
+use Rattle.flat.specs.Flat.{flatThresholds}
 use Rattle.integers.proofs.Machine.{read}
 use borrow.Author.Needs.{needs}
 use Rattle.gas_day_c.proofs.gas_day_default_thresholds.Statement.{statement}

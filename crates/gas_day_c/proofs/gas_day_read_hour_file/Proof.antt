@@ -1,6 +1,6 @@
 -- The wrapped call, and its answer for C. Assumes nothing.
 use mathlib.Core.Path.{ap, _∙_}
-use Rattle.gas_day_c.specs.Flat.{flatFile}
+use Rattle.flat.specs.Flat.{flatFile}
 use borrow.Author.Needs.{needs}
 use Rattle.gas_day_c.proofs.gas_day_read_hour_file.Statement.{statement}
 use Rattle.gas_day_c.proofs.gas_day_read_hour_file.Tie as tie
@@ -26,7 +26,13 @@ same-length-4 c = search needs
 returns : tie.Need-returns
 returns c =
     let e = c .before .before .before .before .before .read-hour-file .ensures in
-    record { answer = c .flat-file .ensures ∙ ap flatFile (e .answer); entries = e .entries; exits = e .exits; titles = e .titles; poolings = e .poolings }
+    record {
+      answer = c .flat-file .ensures ∙ ap flatFile (e .answer);
+      entries = e .entries;
+      exits = e .exits;
+      titles = e .titles;
+      poolings = e .poolings;
+    }
 
 pub gas-day-read-hour-file-spec : {M : Type 1} → statement M
 gas-day-read-hour-file-spec =

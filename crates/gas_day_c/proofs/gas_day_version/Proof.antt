@@ -1,6 +1,6 @@
 -- The constant. Assumes nothing.
 use mathlib.Core.Path.{refl}
-use Rattle.gas_day_c.specs.Flat.{version}
+use Rattle.gas_day_c.specs.Promises.{version}
 use Rattle.gas_day_c.proofs.gas_day_version.Statement.{statement}
 use Rattle.gas_day_c.proofs.gas_day_version.Tie as tie
 

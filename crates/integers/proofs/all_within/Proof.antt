@@ -48,14 +48,18 @@ loop-again : tie.Need-loop-again Inv-loop μ-loop
 loop-again c =
     let l = c .before .before .before .before .loop in
     let v = getD (c .before .before .before .before .before .args .list .now) (l .i) (pos 0) in
-    let e = rw (back v (c .before .before .within-arg .given)) at (c .before .within .ensures) in
-    (omega arith, c .both .ensures ∙ ap₂ (λ (a b : Bool). a && b) (l .inv .1) e ∙ sym (every-step _ (pos 0) _ (l .i) (c .before .before .before .loop-test .taken)))
+    let e = rw (back v (c .before .before .within-arg .given)) at (c .before .within .ensures) in (
+      omega arith,
+      c .both .ensures ∙ ap₂ (λ (a b : Bool). a && b) (l .inv .1) e
+          ∙ sym (every-step _ (pos 0) _ (l .i) (c .before .before .before .loop-test .taken)),
+    )
 
 returns : tie.Need-returns Inv-loop μ-loop
 returns c =
     let s = c .before .before in
     let l = c .before .loop in
-    rw (read (s .fits .lo), read (s .fits .hi)) at (l .inv .1) ∙ ap (every (inRange (s .args .lo) (s .args .hi))) (take-all (l .i) (s .args .list .now) (c .loop-test .left))
+    rw (read (s .fits .lo), read (s .fits .hi)) at (l .inv .1)
+    ∙ ap (every (inRange (s .args .lo) (s .args .hi))) (take-all (l .i) (s .args .list .now) (c .loop-test .left))
 
 pub all-within-spec : {M : Type 1} → statement M
 all-within-spec =

@@ -41,8 +41,10 @@ sub-result c = rw (next-is c) (negated-fits (c .before .args .x) (c .before .fit
 cast-result : tie.Need-cast-result
 cast-result c =
     let x = c .before .args .x in
-    rw (read (sub-result c), next-is c)
-    (not-negative (pos 0 -ℤ (x +ℤ pos 1)) (negated-sign x (below-zero c)), omega (arith, negated-size x (below-zero c), fits-size (c .before .fits .x)))
+    rw (read (sub-result c), next-is c) (
+      not-negative (pos 0 -ℤ (x +ℤ pos 1)) (negated-sign x (below-zero c)),
+      omega (arith, negated-size x (below-zero c), fits-size (c .before .fits .x)),
+    )
 
 add-result-2 : tie.Need-add-result-2
 add-result-2 c = rw (read (sub-result c), next-is c) (omega (arith, negated-size (c .before .args .x) (below-zero c), fits-size (c .before .fits .x)))

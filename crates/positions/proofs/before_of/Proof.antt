@@ -22,7 +22,8 @@ whole s =
     omega (arith, fits-add, size-add (a .entry) (a .exit), size-add (a .title) (a .pooling), size-add (a .entry +ℤ a .exit) (a .title +ℤ a .pooling))
 
 both : (c : tie.After-transferred)
-    → toZ w64 (ofZ w64 (c .before .allocated .result)) +ℤ toZ w64 (ofZ w64 (c .transferred .result)) ≡ start c .args .entry +ℤ start c .args .exit +ℤ (start c .args .title +ℤ start c .args .pooling)
+    → toZ w64 (ofZ w64 (c .before .allocated .result)) +ℤ toZ w64 (ofZ w64 (c .transferred .result))
+    ≡ start c .args .entry +ℤ start c .args .exit +ℤ (start c .args .title +ℤ start c .args .pooling)
 both c =
     let f = start c .fits in
     rw (back (c .before .allocated .result) (c .before .allocated .ok), back (c .transferred .result) (c .transferred .ok))
@@ -43,7 +44,13 @@ add-result-2 c = rw (both c, read (amounts (start c)), read (start c .fits .posi
 returns : tie.Need-returns
 returns c =
     let a = start c .args in
-    rw (both c, read (amounts (start c)), read (start c .fits .position), read (whole (start c)), +ℤ-assoc (a .entry +ℤ a .exit) (a .title) (a .pooling))
+    rw (
+      both c,
+      read (amounts (start c)),
+      read (start c .fits .position),
+      read (whole (start c)),
+      +ℤ-assoc (a .entry +ℤ a .exit) (a .title) (a .pooling),
+    )
 
 pub before-of-spec : {M : Type 1} → statement M
 before-of-spec =

@@ -5,6 +5,7 @@ use lib.IntN.{natAbs}
 use mir.Syntax.{w64}
 use mir.Val.{toZ, ofZ}
 use Rattle.integers.proofs.Machine.{read, read-le, fits}
+use Rattle.rules.specs.Limits.{marketMost}
 use Rattle.rules.specs.Market.{imbalanceOf}
 use Rattle.rules.proofs.Small.{terms-small}
 use borrow.Author.Needs.{needs}
@@ -13,13 +14,16 @@ use Rattle.positions.proofs.imbalance_of.Statement.{statement}
 use Rattle.positions.proofs.imbalance_of.Tie as tie
 
 small : (s : tie.Start)
-    → (natAbs (toZ w64 (ofZ w64 (s .args .terms .upper))) ≤ 12_800_000_000)
-    × (natAbs (toZ w64 (ofZ w64 (s .args .terms .lower))) ≤ 12_800_000_000)
-    × (natAbs (toZ w64 (ofZ w64 (s .args .market))) ≤ 12_800_000_000)
+    → (natAbs (toZ w64 (ofZ w64 (s .args .terms .upper))) ≤ marketMost)
+    × (natAbs (toZ w64 (ofZ w64 (s .args .terms .lower))) ≤ marketMost)
+    × (natAbs (toZ w64 (ofZ w64 (s .args .market))) ≤ marketMost)
 small s =
     let t = s .args .terms in
-    let k = terms-small t (s .pre .0) in
-    (read-le (t .upper) 12_800_000_000 (omega (arith, k .upper)), read-le (t .lower) 12_800_000_000 (omega (arith, k .lower)), read-le (s .args .market) 12_800_000_000 (s .pre .1))
+    let k = terms-small t (s .pre .0) in (
+      read-le (t .upper) marketMost (omega (arith, k .upper)),
+      read-le (t .lower) marketMost (omega (arith, k .lower)),
+      read-le (s .args .market) marketMost (s .pre .1),
+    )
 
 above-upper-requires : tie.Need-above-upper-requires
 above-upper-requires c κs = search needs

@@ -8,6 +8,7 @@ use mir.Val.{toZ}
 use Rattle.integers.specs.Lists.{sumℤ}
 use Rattle.integers.proofs.Machine.{back}
 use Rattle.integers.proofs.Passes.{added-fits, added-next}
+use Rattle.rules.specs.Limits.{positionMost}
 use borrow.Author.Needs.{needs}
 use native.Mathlib.Omega.{arith}
 use Rattle.positions.proofs.sum_of.Statement.{statement}
@@ -33,7 +34,7 @@ add-sum : tie.Need-add-sum Inv-loop μ-loop
 add-sum c =
     let s = c .before .before .before in
     let l = c .before .before .loop in
-    added-fits (s .args .amounts .now) (l .i) (l .sum) _ (l .inv .1) (back _ (c .sum .given)) 100_000_000 (s .pre .1) (omega arith)
+    added-fits (s .args .amounts .now) (l .i) (l .sum) _ (l .inv .1) (back _ (c .sum .given)) positionMost (s .pre .1) (omega arith)
 
 add-i : tie.Need-add-i Inv-loop μ-loop
 add-i c = search needs

@@ -13,17 +13,20 @@ use Rattle.settlement.proofs.add_amounts.Statement.{statement}
 use Rattle.settlement.proofs.add_amounts.Tie as tie
 
 abbrev Inv-loop : tie.InvT-loop
-Inv-loop positions₀ entry exit title pooling i₀ positions i = (i ≤ length entry) × Written (befores positions₀ entry exit title pooling) positions₀ positions i
+Inv-loop positions₀ entry exit title pooling i₀ positions i =
+    (i ≤ length entry) × Written (befores positions₀ entry exit title pooling) positions₀ positions i
 
 abbrev μ-loop : tie.MeasureT-loop
 μ-loop positions₀ entry exit title pooling i₀ positions i = length entry - i
 
 long : (c : tie.Start Inv-loop μ-loop)
-    → length (befores (c .args .positions .now) (c .args .entry .now) (c .args .exit .now) (c .args .title .now) (c .args .pooling .now)) ≡ length (c .args .positions .now)
+    → length (befores (c .args .positions .now) (c .args .entry .now) (c .args .exit .now) (c .args .title .now) (c .args .pooling .now))
+    ≡ length (c .args .positions .now)
 long c = let a = c .args in length-befores (a .positions .now) (a .entry .now) (a .exit .now) (a .title .now) (a .pooling .now) ∙ sym (c .pre .0)
 
 -- what the turn reads is as it was
-old : (c : tie.In-loop Inv-loop μ-loop) → getD (c .before .loop .positions) (c .before .loop .i) (pos 0) ≡ getD (c .before .before .args .positions .now) (c .before .loop .i) (pos 0)
+old : (c : tie.In-loop Inv-loop μ-loop)
+    → getD (c .before .loop .positions) (c .before .loop .i) (pos 0) ≡ getD (c .before .before .args .positions .now) (c .before .loop .i) (pos 0)
 old c = written-elem _ (c .before .before .args .positions .now) _ _ (c .before .loop .inv .1) (long (c .before .before)) (pos 0) (omega arith)
 
 loop-holds : tie.Need-loop-holds Inv-loop μ-loop
@@ -63,8 +66,13 @@ before-of-requires : tie.Need-before-of-requires Inv-loop μ-loop
 before-of-requires c κs =
     let d = c .before .before .before .before .before in
     let l = d .before .loop in
-    let a = few (d .before .before .pre .1) in
-    (read-still (a .position) (l .positions) (l .i) (old d), read-elem (a .entry) (l .i), read-elem (a .exit) (l .i), read-elem (a .title) (l .i), read-elem (a .pooling) (l .i))
+    let a = few (d .before .before .pre .1) in (
+      read-still (a .position) (l .positions) (l .i) (old d),
+      read-elem (a .entry) (l .i),
+      read-elem (a .exit) (l .i),
+      read-elem (a .title) (l .i),
+      read-elem (a .pooling) (l .i),
+    )
 
 mul-t24 : tie.Need-mul-t24 Inv-loop μ-loop
 mul-t24 c = search needs

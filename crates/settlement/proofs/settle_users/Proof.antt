@@ -4,12 +4,13 @@ use mathlib.Core.Bool.{true, false}
 use mathlib.Core.List.{List}
 use lib.IntN.{ℤ, pos}
 use Rattle.integers.proofs.Machine.{read, back, fits, read-le}
+use Rattle.rules.specs.Limits.{marketMost}
 use Rattle.rules.specs.declared.Side.the-variants.{Excess, Shortfall}
 use Rattle.rules.specs.declared.Outcome.the-variants.{Settled}
 use Rattle.rules.specs.Market.{imbalance, outcome}
 use Rattle.positions.specs.Against.{found}
 use Rattle.positions.specs.Before.{befores}
-use Rattle.settlement.specs.Steps.{side}
+use Rattle.sides.specs.Sides.{side}
 use Rattle.settlement.proofs.Users.{sum-asked, market-small, side-fits, side-asked, side-left, within-left}
 use borrow.Author.Needs.{needs}
 use native.Mathlib.Omega.{arith}
@@ -23,10 +24,14 @@ start c = c .before .before .before .before .before .before .before
 abbrev before : tie.After-imbalance-of → List ℤ
 before c = c .before .before .before .before .add-amounts .last .0
 
-added : (c : tie.After-imbalance-of) → before c ≡ befores (start c .args .positions .now) (start c .args .entry .now) (start c .args .exit .now) (start c .args .title .now) (start c .args .pooling .now)
+added : (c : tie.After-imbalance-of)
+    → before c
+    ≡ befores (start c .args .positions .now) (start c .args .entry .now) (start c .args .exit .now) (start c .args .title .now)
+    (start c .args .pooling .now)
 added c = c .before .before .before .before .add-amounts .ensures
 
-against : (c : tie.After-imbalance-of) → found (c .imbalance-of .result) ≡ imbalance (start c .args .terms .upper) (start c .args .terms .lower) (before c)
+against : (c : tie.After-imbalance-of)
+    → found (c .imbalance-of .result) ≡ imbalance (start c .args .terms .upper) (start c .args .terms .lower) (before c)
 unfolding imbalance
 against c = rw (back (c .before .sum-of .result) (c .before .sum-of .ok), c .before .sum-of .ensures) at (c .imbalance-of .ensures)
 
@@ -34,7 +39,8 @@ against c = rw (back (c .before .sum-of .result) (c .before .sum-of .ok), c .bef
 abbrev over : tie.After-imbalance → tie.After-imbalance-of
 over d = d .before .before
 
-is-excess : (d : tie.After-imbalance) → side true (d .imbalance .given .0 .0) ≡ imbalance (start (over d) .args .terms .upper) (start (over d) .args .terms .lower) (before (over d))
+is-excess : (d : tie.After-imbalance)
+    → side true (d .imbalance .given .0 .0) ≡ imbalance (start (over d) .args .terms .upper) (start (over d) .args .terms .lower) (before (over d))
 unfolding side
 is-excess d = sym (ap found (d .imbalance .given .1)) ∙ against (over d)
 
@@ -45,7 +51,9 @@ excess c = c .before .before .before .before .before .before .before .before .be
 abbrev under : tie.After-imbalance2 → tie.After-imbalance-of
 under d = d .before .before
 
-is-shortfall : (d : tie.After-imbalance2) → side false (d .imbalance2 .given .0 .0) ≡ imbalance (start (under d) .args .terms .upper) (start (under d) .args .terms .lower) (before (under d))
+is-shortfall : (d : tie.After-imbalance2)
+    → side false (d .imbalance2 .given .0 .0)
+    ≡ imbalance (start (under d) .args .terms .upper) (start (under d) .args .terms .lower) (before (under d))
 unfolding side
 is-shortfall d = sym (ap found (d .imbalance2 .given .1)) ∙ against (under d)
 
@@ -64,8 +72,10 @@ sum-of-requires c κs = let s = c .before .before .before .before .before in sum
 
 imbalance-of-requires : tie.Need-imbalance-of-requires
 imbalance-of-requires c κs =
-    let s = c .before .before .before .before .before .before in
-    (s .pre .1 .terms, read-le (c .sum-of .result) 12_800_000_000 (rw (c .sum-of .ensures) (market-small (s .pre .1) _ (c .before .before .before .add-amounts .ensures))))
+    let s = c .before .before .before .before .before .before in (
+      s .pre .1 .terms,
+      read-le (c .sum-of .result) marketMost (rw (c .sum-of .ensures) (market-small (s .pre .1) _ (c .before .before .before .add-amounts .ensures))),
+    )
 
 enum-known-imbalance : tie.Need-enum-known-imbalance
 enum-known-imbalance c = search needs
@@ -162,7 +172,8 @@ returns-3 c =
     let d = within c in
     let i = d .before .before in
     within-left (start i .pre .1) _ (added i) (sym (ap found (d .enum-told .given .1)) ∙ against i)
-    _ _ _ (c .before .before .before .before .before .before .before .before .clear .ensures) (c .before .before .before .before .before .clear2 .ensures) (c .before .before .clear-unsigned .ensures)
+    _ _ _ (c .before .before .before .before .before .before .before .before .clear .ensures)
+    (c .before .before .before .before .before .clear2 .ensures) (c .before .before .clear-unsigned .ensures)
 
 pub settle-users-spec : {M : Type 1} → statement M
 settle-users-spec =

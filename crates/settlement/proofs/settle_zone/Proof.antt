@@ -20,7 +20,8 @@ settle-users-requires : tie.Need-settle-users-requires
 settle-users-requires c κs =
     let s = c .before .before .before .before .before in
     let a = s .args in
-    users-asked (a .part .now) (a .entry .now) (a .exit .now) (a .title .now) (a .pooling .now) (a .terms) _ _ _ (s .pre) (length (a .entry .now) - 0) (omega arith)
+    users-asked (a .part .now) (a .entry .now) (a .exit .now) (a .title .now) (a .pooling .now) (a .terms) _ _ _ (s .pre)
+    (length (a .entry .now) - 0) (omega arith)
 
 same-length : tie.Need-same-length
 same-length c = search needs
@@ -38,7 +39,8 @@ returns : tie.Need-returns
 returns c =
     let s = c .before .before .before .before .before .before .before .before .before .before .before in
     let a = s .args in
-    zone-left (a .part .now) (a .entry .now) (a .exit .now) (a .title .now) (a .pooling .now) (a .terms) _ _ _ _ _ _ (length (a .entry .now) - 0) (omega arith) (c .before .before .before .before .before .settle-users .ensures)
+    zone-left (a .part .now) (a .entry .now) (a .exit .now) (a .title .now) (a .pooling .now) (a .terms) _ _ _ _ _ _
+    (length (a .entry .now) - 0) (omega arith) (c .before .before .before .before .before .settle-users .ensures)
 
 pub settle-zone-spec : {M : Type 1} → statement M
 settle-zone-spec =

@@ -54,7 +54,11 @@ returns-3 : tie.Need-returns-3
 unfolding amountsCause unless _then_
 returns-3 c =
     let d = c .before .before in
-    rw (in-range (d .before .before .before), sym (pooled (d .before)) ∙ not-false _ (d .if2 .left)) (rw (c .before .befores-fit .ensures) at (c .refusal .ensures))
+    rw (
+      in-range (d .before .before .before),
+      sym (pooled (d .before)) ∙ not-false _ (d .if2 .left),
+    )
+    (rw (c .before .befores-fit .ensures) at (c .refusal .ensures))
 
 pub amounts-cause-spec : {M : Type 1} → statement M
 amounts-cause-spec =

@@ -27,7 +27,16 @@ both-requires-3 c κs = search needs
 
 returns : tie.Need-returns
 unfolding amountsLong
-returns c = simp (c .both3 .ensures, c .before .both2 .ensures, c .before .before .same4 .ensures, c .before .before .before .same3 .ensures, c .before .before .before .before .both .ensures, c .before .before .before .before .before .same2 .ensures, c .before .before .before .before .before .before .same .ensures)
+returns c =
+    simp (
+      c .both3 .ensures,
+      c .before .both2 .ensures,
+      c .before .before .same4 .ensures,
+      c .before .before .before .same3 .ensures,
+      c .before .before .before .before .both .ensures,
+      c .before .before .before .before .before .same2 .ensures,
+      c .before .before .before .before .before .before .same .ensures,
+    )
 
 pub amounts-long-spec : {M : Type 1} → statement M
 amounts-long-spec =

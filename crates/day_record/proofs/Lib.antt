@@ -1,0 +1,2 @@
+-- What a record that fits says of its hours.
+pub mod Records

@@ -1,0 +1,22 @@
+-- Field by field. Assumes nothing.
+use Rattle.integers.proofs.Machine.{back}
+use Rattle.flat.specs.Records.{dayOf}
+use borrow.Author.Needs.{needs}
+use Rattle.flat.proofs.day.day_of.Statement.{statement}
+use Rattle.flat.proofs.day.day_of.Tie as tie
+
+users-of-requires : tie.Need-users-of-requires
+users-of-requires c κs = search needs
+
+zone-of-requires : tie.Need-zone-of-requires
+zone-of-requires c κs = search needs
+
+zone-of-requires-2 : tie.Need-zone-of-requires-2
+zone-of-requires-2 c κs = search needs
+
+returns : tie.Need-returns
+unfolding dayOf
+returns c = rw (c .zone-of2 .ensures, c .before .zone-of .ensures, back _ (c .before .before .users-of .ok), c .before .before .users-of .ensures)
+
+pub day-of-spec : {M : Type 1} → statement M
+day-of-spec = tie.close (tie.spec users-of-requires zone-of-requires zone-of-requires-2 returns)

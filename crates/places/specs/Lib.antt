@@ -1,0 +1,2 @@
+-- The live places of a zone.
+pub mod Live

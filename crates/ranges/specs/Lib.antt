@@ -1,0 +1,2 @@
+-- What a constructor of a kind of amount answers.
+pub mod Kinds

@@ -1,0 +1,2 @@
+-- One side of the thresholds.
+pub mod Sides
