@@ -9,9 +9,10 @@ use native.Mathlib.Omega.{arith}
 use lib.IntN.{ℤ, pos}
 use lib.ListN.{length, getD, take, drop, set, take-append-drop}
 use lib.Seq.{take-suc, append-snoc, set-at, length-take-le}
+use Rattle.allocation_row.specs.declared.Row.{Row}
+use Rattle.allocation_row.specs.Steps.{Stored}
 use Rattle.allocation_file.specs.File.{File, refused, read, withRow, answered, outcome, ReadHour}
-use Rattle.allocation_file.specs.Steps.{Lent, Stored, listFrom, isRefused, After}
-use Rattle.allocation_file.specs.declared.row.Row.{Row}
+use Rattle.allocation_file.specs.Steps.{Lent, listFrom, isRefused, After}
 use Rattle.allocation_file.specs.declared.FileAnswer.{FileAnswer}
 use Rattle.allocation_file.specs.declared.FileAnswer.the-variants.{Refused}
 
@@ -38,19 +39,24 @@ module _ (k : ℕ) (r : Row) where
   -- the lines after it are refused
   pub after-rest : (f : File) (u : FileAnswer) {a b c d a′ b′ c′ d′ : List ℤ} → isRefused u ≡ true
       → After (k + 1) f a b c d u a′ b′ c′ d′ → After k (withRow r f) a b c d u a′ b′ c′ d′
-  after-rest (refused m) u e w = record { answer = w .answer; entries = w .entries; exits = w .exits; titles = w .titles; poolings = w .poolings }
+  after-rest (refused m) u e w =
+      record { answer = w .answer; entries = w .entries; exits = w .exits; titles = w .titles; poolings = w .poolings }
   after-rest (read h z rs) u e w = absurd (false≢true (rw (w .answer) at e))
 
   -- the row's number at place k, before those of the rows after it
-  put : (f : Row → ℤ) (h z : ℕ) (rs : List Row) (xs : List ℤ) → k < length xs → set (listFrom f (k + 1) (read h z rs) xs) k (f r) ≡ listFrom f k (read h z (r ∷ rs)) xs
+  put : (f : Row → ℤ) (h z : ℕ) (rs : List Row) (xs : List ℤ) → k < length xs
+      → set (listFrom f (k + 1) (read h z rs) xs) k (f r) ≡ listFrom f k (read h z (r ∷ rs)) xs
   put f h z rs xs g =
       let e : k + 1 + length rs ≡ k + suc (length rs) = omega arith in
       rw (e, add-one, take-suc xs k (pos 0) g, append-snoc)
-      (set-at (take k xs) (getD xs k (pos 0)) (map f rs ++ drop (k + suc (length rs)) xs) (f r) k (length-take-le k xs (omega arith)))
+      (set-at (take k xs) (getD xs k (pos 0)) (map f rs ++ drop (k + suc (length rs)) xs) (f r) k
+      (length-take-le k xs (omega arith)))
 
   -- the lines after it are read, and it is stored
-  pub after-stored : (f : File) (u : FileAnswer) {a b c d a′ b′ c′ d′ a″ b″ c″ d″ : List ℤ} → Lent a b c d → k < 128 → isRefused u ≡ false
-      → After (k + 1) f a b c d u a′ b′ c′ d′ → Stored r k a′ b′ c′ d′ a″ b″ c″ d″ → After k (withRow r f) a b c d u a″ b″ c″ d″
+  pub after-stored : (f : File) (u : FileAnswer) {a b c d a′ b′ c′ d′ a″ b″ c″ d″ : List ℤ}
+      → Lent a b c d → k < 128 → isRefused u ≡ false
+      → After (k + 1) f a b c d u a′ b′ c′ d′ → Stored r k a′ b′ c′ d′ a″ b″ c″ d″
+      → After k (withRow r f) a b c d u a″ b″ c″ d″
   after-stored (refused m) u l g e w s = absurd (false≢true (sym (rw (w .answer) at e)))
   after-stored (read h z rs) u {a} {b} {c} {d} l g e w s =
       let i : k + 1 + length rs ≡ k + suc (length rs) = omega arith in
@@ -63,8 +69,15 @@ module _ (k : ℕ) (r : Row) where
       }
 
 -- ---- the call: no line stands before
-pub called : (s : List ℕ) (f : File) (u : FileAnswer) {a b c d a′ b′ c′ d′ : List ℤ} → outcome s a b c d ≡ f → After 0 f a b c d u a′ b′ c′ d′ → ReadHour s a b c d u a′ b′ c′ d′
-called s (refused n) u e w = record { answer = rw e (w .answer); entries = rw e (w .entries); exits = rw e (w .exits); titles = rw e (w .titles); poolings = rw e (w .poolings) }
+pub called : (s : List ℕ) (f : File) (u : FileAnswer) {a b c d a′ b′ c′ d′ : List ℤ}
+    → outcome s a b c d ≡ f → After 0 f a b c d u a′ b′ c′ d′ → ReadHour s a b c d u a′ b′ c′ d′
+called s (refused n) u e w = record {
+  answer = rw e (w .answer);
+  entries = rw e (w .entries);
+  exits = rw e (w .exits);
+  titles = rw e (w .titles);
+  poolings = rw e (w .poolings);
+}
 called s (read h z rs) u e w =
     let n = zero-add (length rs) in
     record {

@@ -1,19 +1,16 @@
 -- The lines in turn, at a position of the file: what the line there makes of the lines from it on. Assumes nothing.
 use mathlib.Core.Path.{_≡_, _∙_}
-use mathlib.Core.Bool.{true, false, _&&_}
+use mathlib.Core.Bool.{true, false}
 use mathlib.Core.List.{List, []}
 use Prim.Native.Nat.{ℕ, _+_, _≤_, _<_}
-use lib.Dec.{eqb, ltb}
 use lib.ListN.{length, drop}
-use borrow.Author.Tests.{eq-eqb, eqb-true, lt-ltb, ltb-true}
-use Rattle.integers.proofs.Tests.{and-true}
-use Rattle.allocation_file.specs.Lines.{lines}
-use Rattle.allocation_file.specs.Rows.{rowOf}
-use Rattle.allocation_file.specs.File.{refused, read, withRow, follows, turn, inTurn, underFirst, bodyOf}
-use Rattle.allocation_file.specs.Steps.{lineAt}
-use Rattle.allocation_file.specs.declared.row.Row.{Row}
-use Rattle.allocation_file.specs.declared.row.Line.the-variants.{Good, Faulty}
-use Rattle.allocation_file.proofs.Lines.{lines-at, lines-end}
+use Rattle.csv.specs.Lines.{lines}
+use Rattle.csv.specs.Steps.{lineAt}
+use Rattle.csv.proofs.Lines.{lines-at, lines-end}
+use Rattle.allocation_row.specs.Rows.{rowOf, follows}
+use Rattle.allocation_row.specs.declared.Row.{Row}
+use Rattle.allocation_row.specs.declared.Line.the-variants.{Good, Faulty}
+use Rattle.allocation_file.specs.File.{refused, read, withRow, turn, inTurn, underFirst, bodyOf}
 
 -- ---- no line is left
 module _ (s : List ℕ) (at : ℕ) (p : length s ≤ at) where
@@ -56,23 +53,3 @@ module _ (s : List ℕ) (at : ℕ) (p : at < length s) (l : List ℕ) (e : l ≡
   -- it gives the hour and the zone
   pub body-row : (r : Row) → rowOf l ≡ Good r → bodyOf (lines (drop at s)) ≡ inTurn (r .hour) (r .zone) (lines (drop at s)) 0
   body-row r w = body-here ∙ rw w
-
--- ---- a row that follows
-pub record Follows (h z k : ℕ) (r : Row) : Type 0 where
-  pub hour : r .hour ≡ h
-  pub zone : r .zone ≡ z
-  pub place : r .place ≡ k
-  pub below : k < 128
-
-module _ (h z k : ℕ) (r : Row) where
-  -- by the test
-  pub follows-means : follows h z k r ≡ true → Follows h z k r
-  follows-means e =
-      let p = and-true (eqb (r .hour) h && eqb (r .zone) z) (eqb (r .place) k && ltb k 128) e in
-      let q = and-true (eqb (r .hour) h) (eqb (r .zone) z) (p .0) in
-      let w = and-true (eqb (r .place) k) (ltb k 128) (p .1) in
-      record { hour = eqb-true _ _ (q .0); zone = eqb-true _ _ (q .1); place = eqb-true _ _ (w .0); below = ltb-true k 128 (w .1) }
-
-  -- and the converse
-  pub means-follows : Follows h z k r → follows h z k r ≡ true
-  means-follows f = rw (eq-eqb _ _ (f .hour), eq-eqb _ _ (f .zone), eq-eqb _ _ (f .place), lt-ltb k 128 (f .below))

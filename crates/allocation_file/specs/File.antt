@@ -1,17 +1,17 @@
 -- The file, and the call that reads it. Assumes nothing.
 use Prim.Native.Nat.{ℕ, _+_}
 use mathlib.Core.Path.{_≡_}
-use mathlib.Core.Bool.{Bool, true, false, _&&_, cond}
+use mathlib.Core.Bool.{Bool, _&&_, cond}
 use mathlib.Core.List.{List, [], _∷_, _++_, map}
-use lib.Dec.{eqb, ltb}
+use lib.Dec.{eqb}
 use lib.IntN.{ℤ, pos}
 use lib.ListN.{length, drop}
-use Rattle.allocation_file.specs.Bytes.{bytes}
-use Rattle.allocation_file.specs.Lines.{lines}
-use Rattle.allocation_file.specs.Rows.{rowOf}
-use Rattle.allocation_file.specs.declared.row.Row.{Row}
-use Rattle.allocation_file.specs.declared.row.Line.{Line}
-use Rattle.allocation_file.specs.declared.row.Line.the-variants.{Good, Faulty}
+use Rattle.text.specs.Bytes.{bytes}
+use Rattle.csv.specs.Lines.{begins, lines}
+use Rattle.allocation_row.specs.Rows.{rowOf, follows}
+use Rattle.allocation_row.specs.declared.Row.{Row}
+use Rattle.allocation_row.specs.declared.Line.{Line}
+use Rattle.allocation_row.specs.declared.Line.the-variants.{Good, Faulty}
 use Rattle.allocation_file.specs.declared.FileAnswer.{FileAnswer}
 use Rattle.allocation_file.specs.declared.FileAnswer.the-variants.{Refused, Read}
 
@@ -20,12 +20,6 @@ use Rattle.allocation_file.specs.declared.FileAnswer.the-variants.{Refus
 -- "The file opens with the 25 bytes .."
 abbrev pub header : List ℕ
 header = bytes "h,z,g,EEA,XEA,NCTTN,IPT\r\n"
-
--- s begins with the bytes of the second list
-abbrev pub begins : List ℕ → List ℕ → Bool
-begins s [] = true
-begins [] (x ∷ xs) = false
-begins (y ∷ ys) (x ∷ xs) = eqb y x && begins ys xs
 
 -- the lines after the header
 abbrev pub linesOf : List ℕ → List (List ℕ)
@@ -42,10 +36,6 @@ pub data File : Type 0 where
 abbrev pub withRow : Row → File → File
 withRow r (refused c) = refused c
 withRow r (read h z rs) = read h z (r ∷ rs)
-
--- "All lines have the first line's h and z; g runs 0, 1, 2 and on, to 127 at most": a row may stand at place k, after a first line with h and z
-abbrev pub follows : ℕ → ℕ → ℕ → Row → Bool
-follows h z k r = (eqb (r .hour) h && eqb (r .zone) z) && (eqb (r .place) k && ltb k 128)
 
 -- one line in its turn: 14 or 15, then 16, then the lines after it
 abbrev pub turn : Line → ℕ → ℕ → ℕ → (ℕ → File) → File

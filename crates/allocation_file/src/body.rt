@@ -2,31 +2,16 @@
 ghost use mathlib.Core.Path.{_≡_};
 ghost use Prim.Native.Nat.{_≤_};
 ghost use lib.ListN.{drop};
-ghost use Rattle.allocation_file.specs.Lines.{lines};
-ghost use Rattle.allocation_file.specs.File.{follows, inTurn, bodyOf, answered};
-ghost use Rattle.allocation_file.specs.Steps.{Within, Lent, Stored, After, isRefused};
+ghost use Rattle.csv.specs.Lines.{lines};
+ghost use Rattle.allocation_file.specs.File.{inTurn, bodyOf, answered};
+ghost use Rattle.allocation_file.specs.Steps.{Lent, After, isRefused};
 use super::FileAnswer;
 use super::FileRead;
-use super::row::Line;
-use super::row::Row;
-use super::row::read_row;
-use super::split::line_at;
-
-// Whether a row may stand at `place` in a file of `hour` and `zone`.
-fn follows_on(row: Row, place: usize, hour: u32, zone: u32) -> bool
-    ensures { λ r. ⌜ r ≡ follows hour zone place row ⌝ }
-{
-    if row.hour != hour {
-        return false;
-    }
-    if row.zone != zone {
-        return false;
-    }
-    if row.place as usize != place {
-        return false;
-    }
-    place < 128
-}
+use allocation_row::Line;
+use allocation_row::follows_on;
+use allocation_row::read_row;
+use allocation_row::store;
+use csv::line_at;
 
 // The answer to a file that is read, in the caller's signed numbers.
 fn answer_read(hour: u32, zone: u32, lines: usize) -> FileAnswer
@@ -49,30 +34,9 @@ fn is_refused(answer: FileAnswer) -> bool
     }
 }
 
-// Puts a row's four amounts at `place`.
-fn store(
-    row: Row,
-    place: usize,
-    entries: &mut [i64],
-    exits: &mut [i64],
-    titles: &mut [i64],
-    poolings: &mut [i64],
-)
-    requires { ⌜ Within place (now entries) (now exits) (now titles) (now poolings) ⌝ }
-    ensures { λ u. ⌜ Stored row place (now (entries .entry)) (now (exits .entry)) (now (titles .entry)) (now (poolings .entry)) (now (entries .exit)) (now (exits .exit)) (now (titles .exit)) (now (poolings .exit)) ⌝ }
-{
-    let amount = row.entry;
-    entries[place] = amount;
-    let amount = row.exit;
-    exits[place] = amount;
-    let amount = row.title;
-    titles[place] = amount;
-    let amount = row.pooling;
-    poolings[place] = amount;
-}
-
-// Reads the lines from `at` on, the first of which is at `place`, in a file of `hour` and `zone`. A line is checked before the lines after it are read, and
-// stored once they all are: so a refusal touches no list, and no line is read twice. The calls are at most 129 deep: no row follows at place 128.
+// Reads the lines from `at` on, the first of which is at `place`, in a file of `hour` and `zone`. A line is checked
+// before the lines after it are read, and stored once they all are: so a refusal touches no list, and no line is read
+// twice. The calls are at most 129 deep: no row follows at place 128.
 fn read_lines(
     file: &[u8],
     at: usize,
@@ -85,7 +49,11 @@ fn read_lines(
     poolings: &mut [i64],
 ) -> FileAnswer
     requires { ⌜ (place ≤ 128) × Lent (now entries) (now exits) (now titles) (now poolings) ⌝ }
-    ensures { λ r. ⌜ After place (inTurn hour zone (lines (drop at (now (file .entry)))) place) (now (entries .entry)) (now (exits .entry)) (now (titles .entry)) (now (poolings .entry)) r (now (entries .exit)) (now (exits .exit)) (now (titles .exit)) (now (poolings .exit)) ⌝ }
+    ensures { λ r. ⌜
+        After place (inTurn hour zone (lines (drop at (now (file .entry)))) place)
+        (now (entries .entry)) (now (exits .entry)) (now (titles .entry)) (now (poolings .entry))
+        r
+        (now (entries .exit)) (now (exits .exit)) (now (titles .exit)) (now (poolings .exit)) ⌝ }
 {
     if file.len() <= at {
         return answer_read(hour, zone, place);
@@ -117,7 +85,8 @@ fn read_lines(
     answer
 }
 
-// Reads the lines from `at` on, where the header ends. The first line gives the hour and the zone, and is then read in its turn like any other.
+// Reads the lines from `at` on, where the header ends. The first line gives the hour and the zone, and is then read in
+// its turn like any other.
 pub fn read_body(
     file: &[u8],
     at: usize,
@@ -127,7 +96,11 @@ pub fn read_body(
     poolings: &mut [i64],
 ) -> FileAnswer
     requires { ⌜ Lent (now entries) (now exits) (now titles) (now poolings) ⌝ }
-    ensures { λ r. ⌜ After 0 (bodyOf (lines (drop at (now (file .entry))))) (now (entries .entry)) (now (exits .entry)) (now (titles .entry)) (now (poolings .entry)) r (now (entries .exit)) (now (exits .exit)) (now (titles .exit)) (now (poolings .exit)) ⌝ }
+    ensures { λ r. ⌜
+        After 0 (bodyOf (lines (drop at (now (file .entry)))))
+        (now (entries .entry)) (now (exits .entry)) (now (titles .entry)) (now (poolings .entry))
+        r
+        (now (entries .exit)) (now (exits .exit)) (now (titles .exit)) (now (poolings .exit)) ⌝ }
 {
     if file.len() <= at {
         return FileAnswer::Refused(17);

@@ -1,4 +1,5 @@
--- What holds of every file, over the definitions of `allocation_file`. Statements only; the proofs are in proofs/Guarantees.antt, and the crate `certificate` asks for each. Assumes nothing.
+-- What holds of every file, over the definitions of `allocation_file`. Statements only; the proofs are in proofs/Guarantees.antt, and the
+-- crate `certificate` asks for each. Assumes nothing.
 use Prim.Native.Nat.{ℕ, _^_, _≤_, _<_}
 use mathlib.Core.Path.{_≡_}
 use mathlib.Core.Bool.{true, false}
@@ -7,10 +8,10 @@ use mathlib.Core.Logic.{_↔_}
 use lib.IntN.{ℤ, pos, natAbs}
 use lib.ListN.{length, take, replicate}
 use Rattle.integers.specs.Lists.{tabulate}
-use Rattle.allocation_file.specs.Rows.{rowOf}
-use Rattle.allocation_file.specs.File.{header, linesOf, refused, read, follows, fileOf, all128, outcome, answerOf}
-use Rattle.allocation_file.specs.declared.row.Row.{Row}
-use Rattle.allocation_file.specs.declared.row.Line.the-variants.{Good, Faulty}
+use Rattle.allocation_row.specs.Rows.{rowOf, follows}
+use Rattle.allocation_row.specs.declared.Row.{Row}
+use Rattle.allocation_row.specs.declared.Line.the-variants.{Good, Faulty}
+use Rattle.allocation_file.specs.File.{header, linesOf, refused, read, fileOf, all128, outcome, answerOf}
 use Rattle.allocation_file.specs.declared.FileRead.{FileRead}
 use Rattle.allocation_file.specs.declared.FileAnswer.the-variants.{Read}
 

@@ -9,7 +9,7 @@ use lib.Seq.{take-at, length-take-le}
 use Rattle.integers.specs.Ranges.{natural}
 use Rattle.allocation_file.specs.declared.FileRead.{FileRead}
 use Rattle.allocation_file.specs.declared.FileAnswer.the-variants.{Refused, Read}
-use Rattle.allocation_file.specs.declared.row.Row.{Row}
+use Rattle.allocation_row.specs.declared.Row.{Row}
 use Rattle.allocation_file.specs.File.{File, refused, read, outcome, answerOf, listOf}
 use Rattle.file_guarantees.proofs.Guarantees.{accepted-obeys}
 use Rattle.report.specs.Text.{refusedLine}

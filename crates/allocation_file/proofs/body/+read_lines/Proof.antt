@@ -9,23 +9,24 @@ use borrow.Author.Tests.{not-true, not-false}
 use borrow.Author.Needs.{needs}
 use borrow.Fn.Kinds.{In}
 use borrow.Fn.PlainCycle.{Measures, is, falls, and}
-use Rattle.allocation_file.specs.declared.row.Row.{Row}
-use Rattle.allocation_file.specs.declared.row.Line.the-variants.{Good}
-use Rattle.allocation_file.specs.Lines.{lines}
-use Rattle.allocation_file.specs.Rows.{rowOf}
-use Rattle.allocation_file.specs.File.{follows, withRow, inTurn}
-use Rattle.allocation_file.proofs.Lines.{line-within, line-length}
-use Rattle.allocation_file.proofs.Turns.{turns-end, turn-faulty, turn-other, turn-row, follows-means}
+use Rattle.csv.specs.Lines.{lines}
+use Rattle.csv.proofs.Lines.{line-at-within}
+use Rattle.csv.proofs.line_at.Reads as line-at-reads
+use Rattle.allocation_row.specs.declared.Row.{Row}
+use Rattle.allocation_row.specs.declared.Line.the-variants.{Good}
+use Rattle.allocation_row.specs.Rows.{rowOf, follows}
+use Rattle.allocation_row.proofs.Follows.{follows-means}
+use Rattle.allocation_row.proofs.read_row.Reads as read-row-reads
+use Rattle.allocation_row.proofs.follows_on.Reads as follows-on-reads
+use Rattle.allocation_row.proofs.store.Reads as store-reads
+use Rattle.allocation_file.specs.File.{File, withRow, inTurn}
+use Rattle.allocation_file.proofs.Turns.{turns-end, turn-faulty, turn-other, turn-row}
 use Rattle.allocation_file.proofs.Stores.{after-refused, after-end, after-rest, after-stored}
 use Rattle.allocation_file.proofs.body.read_lines.Reads as read-lines
 use Rattle.allocation_file.proofs.body.read_lines.Kinds as read-lines-kinds
 use Rattle.allocation_file.proofs.body.+read_lines.Lts-read_lines as lts
 use Rattle.allocation_file.proofs.body.answer_read.Reads as answer-read-reads
-use Rattle.allocation_file.proofs.body.follows_on.Reads as follows-on-reads
 use Rattle.allocation_file.proofs.body.is_refused.Reads as is-refused-reads
-use Rattle.allocation_file.proofs.body.store.Reads as store-reads
-use Rattle.allocation_file.proofs.row.read_row.Reads as read-row-reads
-use Rattle.allocation_file.proofs.split.line_at.Reads as line-at-reads
 use Rattle.allocation_file.proofs.body.+read_lines.{statement}
 use Rattle.allocation_file.proofs.body.+read_lines.Tie.{close}
 
@@ -60,42 +61,56 @@ claims t = (
 
 -- ---- what the needs below share
 
--- the line is within the file
-next-within : (t : ℕ) (c : lts.After-line-at (claims t) (pre t) read-lines.Post) → let a = c .before .before .before .args in a .at + length (now (c .line-at .result)) ≤ length (now (a .file))
-next-within t c =
-    let a = c .before .before .before .args in
-    let h : a .at ≤ length (now (a .file)) = omega arith in
-    rw (c .line-at .ensures, line-length (now (a .file)) (a .at) h) (line-within (now (a .file)) (a .at) h)
-
--- a row that may stand at its place: the function's entry, the line, the row, and that it may
-module _ (t : ℕ) (c : lts.Else2 (claims t) (pre t) read-lines.Post) where
+-- a line is found: the function's entry, and that the line is within the file
+module _ (t : ℕ) (c : lts.After-line-at (claims t) (pre t) read-lines.Post) where
   abbrev entry : lts.Start (claims t) (pre t) read-lines.Post
-  entry = c .before .before .before .before .before .before .before .before .before
+  entry = c .before .before .before
 
-  abbrev lined : lts.After-line-at (claims t) (pre t) read-lines.Post
-  lined = c .before .before .before .before .before .before
+  next-within : entry .args .at + length (now (c .line-at .result)) ≤ length (now (entry .args .file))
+  next-within =
+      let a = entry .args in
+      line-at-within (now (a .file)) (a .at) (now (c .line-at .result)) (c .line-at .ensures) (omega arith)
+
+-- its row is held against its place: the line, the row, and that it is the line's
+module _ (t : ℕ) (c : lts.After-follows-on (claims t) (pre t) read-lines.Post) where
+  abbrev found : lts.After-line-at (claims t) (pre t) read-lines.Post
+  found = c .before .before .before .before .before
 
   abbrev row : Row
-  row = c .before .before .before .row .given .0 .0
+  row = c .before .before .row .given .0 .0
 
-  is-row : rowOf (now (lined .line-at .result)) ≡ Good row
-  is-row = sym (c .before .before .before .before .before .read-row .ensures) ∙ c .before .before .before .row .given .1
+  is-row : rowOf (now (found .line-at .result)) ≡ Good row
+  is-row = sym (c .before .before .before .before .read-row .ensures) ∙ c .before .before .row .given .1
 
-  may-stand : follows (entry .args .hour) (entry .args .zone) (entry .args .place) row ≡ true
-  may-stand = sym (c .before .follows-on .ensures) ∙ not-false _ (c .if2 .left)
+-- it may stand there: so its place is below 128; what the lines after it say, and what it makes of that
+module _ (t : ℕ) (c : lts.Else2 (claims t) (pre t) read-lines.Post) where
+  abbrev held : lts.After-follows-on (claims t) (pre t) read-lines.Post
+  held = c .before
 
-  below : entry .args .place < 128
-  below = follows-means _ _ _ row may-stand .below
+  abbrev start : lts.Start (claims t) (pre t) read-lines.Post
+  start = entry t (found t held)
 
-  -- what the row makes of the lines from it on
-  rest : let a = entry .args in
-      inTurn (a .hour) (a .zone) (lines (drop (a .at) (now (a .file)))) (a .place)
-      ≡ withRow row (inTurn (a .hour) (a .zone) (lines (drop (a .at + length (now (lined .line-at .result)) + 2) (now (a .file)))) (a .place + 1))
+  may-stand : follows (start .args .hour) (start .args .zone) (start .args .place) (row t held) ≡ true
+  may-stand = sym (held .follows-on .ensures) ∙ not-false _ (c .if2 .left)
+
+  below : start .args .place < 128
+  below = follows-means _ _ _ (row t held) may-stand .below
+
+  abbrev after : File
+  after =
+      let a = start .args in
+      let next = a .at + length (now (found t held .line-at .result)) + 2 in
+      inTurn (a .hour) (a .zone) (lines (drop next (now (a .file)))) (a .place + 1)
+
+  rest : let a = start .args in
+      inTurn (a .hour) (a .zone) (lines (drop (a .at) (now (a .file)))) (a .place) ≡ withRow (row t held) after
   rest =
-      let a = entry .args in
-      turn-row (now (a .file)) (a .at) (lined .before .if1 .left) (now (lined .line-at .result)) (lined .line-at .ensures) (a .hour) (a .zone) (a .place) row is-row may-stand
+      let a = start .args in
+      let l = found t held in
+      turn-row (now (a .file)) (a .at) (l .before .if1 .left) (now (l .line-at .result)) (l .line-at .ensures)
+      (a .hour) (a .zone) (a .place) (row t held) (is-row t held) may-stand
 
--- and the lines after it are read
+-- the lines after it are read
 abbrev turned : (t : ℕ) → lts.After-read-lines (claims t) (pre t) read-lines.Post → lts.Else2 (claims t) (pre t) read-lines.Post
 turned t c = c .before .before .before .before .before
 
@@ -108,8 +123,7 @@ returns : (t : ℕ) → lts.Need-returns (claims t) (pre t) read-lines.Post
 returns t c =
     let a = c .before .before .before .args in
     rw (c .answer-read .ensures)
-    (after-end
-    (turns-end (now (a .file)) (a .at) (c .before .if1 .taken) (a .hour) (a .zone) (a .place)))
+    (after-end (turns-end (now (a .file)) (a .at) (c .before .if1 .taken) (a .hour) (a .zone) (a .place)))
 
 line-at-requires : (t : ℕ) → lts.Need-line-at-requires (claims t) (pre t) read-lines.Post
 line-at-requires t c κs = search needs
@@ -128,10 +142,12 @@ enum-known-cause t c = search needs
 
 returns-2 : (t : ℕ) → lts.Need-returns-2 (claims t) (pre t) read-lines.Post
 returns-2 t c =
-    let a = c .before .before .before .before .before .before .before .args in
-    let l = c .before .before .before .before .line-at in
+    let r = c .before .before .before in
+    let l = r .before in
+    let a = entry t l .args in
     after-refused
-    (turn-faulty (now (a .file)) (a .at) (c .before .before .before .before .before .if1 .left) (now (l .result)) (l .ensures) (a .hour) (a .zone) (a .place) _ (sym (c .before .before .before .read-row .ensures) ∙ c .before .cause .given .1))
+    (turn-faulty (now (a .file)) (a .at) (l .before .if1 .left) (now (l .line-at .result)) (l .line-at .ensures)
+    (a .hour) (a .zone) (a .place) _ (sym (r .read-row .ensures) ∙ c .before .cause .given .1))
 
 enum-known-row : (t : ℕ) → lts.Need-enum-known-row (claims t) (pre t) read-lines.Post
 enum-known-row t c = search needs
@@ -141,16 +157,20 @@ follows-on-requires t c κs = search needs
 
 returns-3 : (t : ℕ) → lts.Need-returns-3 (claims t) (pre t) read-lines.Post
 returns-3 t c =
-    let a = c .before .before .before .before .before .before .before .before .before .args in
-    let l = c .before .before .before .before .before .before .line-at in
+    let f = c .before in
+    let l = found t f in
+    let a = entry t l .args in
     after-refused
-    (turn-other (now (a .file)) (a .at) (c .before .before .before .before .before .before .before .if1 .left) (now (l .result)) (l .ensures) (a .hour) (a .zone) (a .place) (c .before .before .before .row .given .0 .0) (sym (c .before .before .before .before .before .read-row .ensures) ∙ c .before .before .before .row .given .1) (sym (c .before .follows-on .ensures) ∙ not-true _ (c .if2 .taken)))
+    (turn-other (now (a .file)) (a .at) (l .before .if1 .left) (now (l .line-at .result)) (l .line-at .ensures)
+    (a .hour) (a .zone) (a .place) (row t f) (is-row t f) (sym (f .follows-on .ensures) ∙ not-true _ (c .if2 .taken)))
 
 add-read-lines : (t : ℕ) → lts.Need-add-read-lines (claims t) (pre t) read-lines.Post
 add-read-lines t c = omega (arith, below t c)
 
 read-lines-requires : (t : ℕ) → lts.Need-read-lines-requires (claims t) (pre t) read-lines.Post
-read-lines-requires t c κs = let d = c .before .before .before .before in (omega (arith, next-within t (lined t d)), (omega (arith, below t d), entry t d .pre .1 .1))
+read-lines-requires t c κs =
+    let d = c .before .before .before .before in
+    (omega (arith, next-within t (found t (held t d))), (omega (arith, below t d), start t d .pre .1 .1))
 
 is-refused-requires : (t : ℕ) → lts.Need-is-refused-requires (claims t) (pre t) read-lines.Post
 is-refused-requires t c κs = search needs
@@ -171,15 +191,22 @@ returns-4 : (t : ℕ) → lts.Need-returns-4 (claims t) (pre t) read-lines.Post
 returns-4 t c =
     let r = c .before .before .before .before .before .before in
     let d = turned t r in
-    rw (rest t d) (after-rest _ (row t d) _ _ (sym (c .before .is-refused .ensures) ∙ c .if3 .taken) (r .read-lines .ensures))
+    let refused = sym (c .before .is-refused .ensures) ∙ c .if3 .taken in
+    rw (rest t d)
+    (after-rest (start t d .args .place) (row t (held t d)) (after t d) (r .read-lines .result) refused (r .read-lines .ensures))
 
 store-requires : (t : ℕ) → lts.Need-store-requires (claims t) (pre t) read-lines.Post
 store-requires t c κs =
     let r = c .before .before .before .before .before .before .before .before .before .before in
     let b = below t (turned t r) in
-    let p = entry t (turned t r) .pre .1 .1 in
+    let p = start t (turned t r) .pre .1 .1 in
     let q = r .read-lines .kept .1 .1 .1 .1 .1 in
-    record { entries = omega (arith, q .0); exits = omega (arith, q .1 .0); titles = omega (arith, q .1 .1 .0); poolings = omega (arith, q .1 .1 .1 .0) }
+    record {
+      entries = omega (arith, q .0);
+      exits = omega (arith, q .1 .0);
+      titles = omega (arith, q .1 .1 .0);
+      poolings = omega (arith, q .1 .1 .1 .0);
+    }
 
 same-length-5 : (t : ℕ) → lts.Need-same-length-5 (claims t) (pre t) read-lines.Post
 same-length-5 t c = search needs
@@ -195,11 +222,14 @@ same-length-8 t c = search needs
 
 returns-5 : (t : ℕ) → lts.Need-returns-5 (claims t) (pre t) read-lines.Post
 returns-5 t c =
-    let r = c .before .before .before .before .before .before .before .before .before .before .before .before .before .before .before in
+    let s = c .before .before .before .before in
+    let f = s .before .before .before .before .before in
+    let r = f .before .before .before .before .before .before in
     let d = turned t r in
-    let f = c .before .before .before .before .before .before .before .before .before in
+    let read = sym (f .before .is-refused .ensures) ∙ f .if3 .left in
     rw (rest t d)
-    (after-stored _ (row t d) _ _ (entry t d .pre .1 .1) (below t d) (sym (f .before .is-refused .ensures) ∙ f .if3 .left) (r .read-lines .ensures) (c .before .before .before .before .store .ensures))
+    (after-stored (start t d .args .place) (row t (held t d)) (after t d) (r .read-lines .result)
+    (start t d .pre .1 .1) (below t d) read (r .read-lines .ensures) (s .store .ensures))
 
 pub +read-lines-spec : {M : Type 1} → statement M
 +read-lines-spec = close μ λ t. lts.spec (claims t)

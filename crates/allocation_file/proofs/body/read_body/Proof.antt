@@ -33,7 +33,8 @@ returns-2 c =
     let l = r .before in
     let a = l .before .before .before .args in
     after-refused
-    (body-faulty (now (a .file)) (a .at) (l .before .if1 .left) (now (l .line-at .result)) (l .line-at .ensures) _ (sym (r .read-row .ensures) ∙ c .before .cause .given .1))
+    (body-faulty (now (a .file)) (a .at) (l .before .if1 .left) (now (l .line-at .result)) (l .line-at .ensures)
+    _ (sym (r .read-row .ensures) ∙ c .before .cause .given .1))
 
 same-length : tie.Need-same-length
 same-length c = search needs
@@ -54,8 +55,8 @@ returns-3 c =
     let r = f .before .before in
     let l = r .before in
     let a = l .before .before .before .args in
-    rw (body-row (now (a .file)) (a .at) (l .before .if1 .left) (now (l .line-at .result)) (l .line-at .ensures) (f .first .given .0 .0) (sym (r .read-row .ensures) ∙ f .first .given .1))
-    (t .read-lines .ensures)
+    let first = body-row (now (a .file)) (a .at) (l .before .if1 .left) (now (l .line-at .result)) (l .line-at .ensures) in
+    rw (first (f .first .given .0 .0) (sym (r .read-row .ensures) ∙ f .first .given .1)) (t .read-lines .ensures)
 
 pub read-body-spec : {M : Type 1} → statement M
 read-body-spec =
