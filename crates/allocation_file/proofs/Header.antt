@@ -9,8 +9,9 @@ use lib.ListN.{length, drop}
 use borrow.Author.Tests.{eqb-true}
 use Rattle.integers.proofs.Tests.{and-true}
 use Rattle.csv.specs.Lines.{begins, lines}
-use Rattle.allocation_file.specs.File.{refused, bodyOf, header, fileOf, all128, outcome}
-use Rattle.allocation_file.specs.Steps.{Lent}
+use Rattle.allocation_lines.specs.Turns.{refused, bodyOf}
+use Rattle.allocation_lines.specs.Steps.{Lent}
+use Rattle.allocation_file.specs.File.{header, fileOf, all128, outcome}
 
 module _ (s : List ℕ) (a b c d : List ℤ) where
   -- a list of another length

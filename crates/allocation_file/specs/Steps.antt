@@ -1,41 +1,10 @@
--- What the contracts between the reader's own functions are written with. Nobody needs this to believe the call's contract. Assumes nothing.
-use Prim.Native.Nat.{ℕ, _+_}
-use mathlib.Core.Path.{_≡_}
-use mathlib.Core.Bool.{Bool, true, false}
-use mathlib.Core.List.{List, _++_, map}
-use lib.IntN.{ℤ}
-use lib.ListN.{length, take, drop}
-use Rattle.allocation_row.specs.declared.Row.{Row}
-use Rattle.allocation_file.specs.File.{File, refused, read, answered}
+-- The lines' answer as the call's. Nobody needs this to believe the call's contract. Assumes nothing.
+use Rattle.allocation_lines.specs.declared.LinesAnswer.{LinesAnswer}
+use Rattle.allocation_lines.specs.declared.LinesAnswer.the-variants.{Refused as LinesRefused, Read as LinesRead}
+use Rattle.allocation_file.specs.File.{answered}
 use Rattle.allocation_file.specs.declared.FileAnswer.{FileAnswer}
-use Rattle.allocation_file.specs.declared.FileAnswer.the-variants.{Refused, Read}
+use Rattle.allocation_file.specs.declared.FileAnswer.the-variants.{Refused}
 
--- ---- the lists lent
-
--- four lists of 128 places
-pub record Lent (a b c d : List ℤ) : Type 0 where
-  pub entries : length a ≡ 128
-  pub exits : length b ≡ 128
-  pub titles : length c ≡ 128
-  pub poolings : length d ≡ 128
-
--- a refusal
-abbrev pub isRefused : FileAnswer → Bool
-isRefused (Refused c) = true
-isRefused (Read r) = false
-
--- ---- the lines from place k on: as `answerOf` and `listOf`, with k lines before them
-abbrev pub answerFrom : ℕ → File → FileAnswer
-answerFrom k (refused c) = Refused c
-answerFrom k (read h z rs) = answered h z (k + length rs)
-
-abbrev pub listFrom : (Row → ℤ) → ℕ → File → List ℤ → List ℤ
-listFrom f k (refused c) xs = xs
-listFrom f k (read h z rs) xs = take k xs ++ (map f rs ++ drop (k + length rs) xs)
-
-pub record After (k : ℕ) (f : File) (a b c d : List ℤ) (r : FileAnswer) (a′ b′ c′ d′ : List ℤ) : Type 0 where
-  pub answer : r ≡ answerFrom k f
-  pub entries : a′ ≡ listFrom (λ w. w .entry) k f a
-  pub exits : b′ ≡ listFrom (λ w. w .exit) k f b
-  pub titles : c′ ≡ listFrom (λ w. w .title) k f c
-  pub poolings : d′ ≡ listFrom (λ w. w .pooling) k f d
+abbrev pub answerTo : LinesAnswer → FileAnswer
+answerTo (LinesRefused c) = Refused c
+answerTo (LinesRead r) = answered (r .hour) (r .zone) (r .lines)

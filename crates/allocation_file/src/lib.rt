@@ -1,11 +1,11 @@
 // The reader of an hour's allocation file: one public call, `read_hour_file`. What the file's rules are is in specs/.
 ghost use mathlib.Core.Path.{_≡_};
 ghost use Rattle.allocation_file.specs.File.{all128, ReadHour};
-use body::read_body;
+ghost use Rattle.allocation_file.specs.Steps.{answerTo};
+use allocation_lines::LinesAnswer;
+use allocation_lines::read_body;
 use csv::begins_with;
 use integers::both;
-
-mod body;
 
 // What a file that is read says besides its amounts: the hour, the zone's number (0 is H, 1 is L) and the number of
 // lines.
@@ -31,6 +31,20 @@ fn all_128(a: usize, b: usize, c: usize, d: usize) -> bool
     both(both(a == 128, b == 128), both(c == 128, d == 128))
 }
 
+// The lines' answer in the caller's signed numbers.
+fn answer(lines: LinesAnswer) -> FileAnswer
+    ensures { λ r. ⌜ r ≡ answerTo lines ⌝ }
+{
+    match lines {
+        LinesAnswer::Refused(cause) => FileAnswer::Refused(cause),
+        LinesAnswer::Read(read) => FileAnswer::Read(FileRead {
+            hour: integers::signed(read.hour as u64),
+            zone: integers::signed(read.zone as u64),
+            lines: integers::signed(read.lines as u64),
+        }),
+    }
+}
+
 // Reads the file into the four lists: as many places are filled as the file has lines, and the others stay as they
 // were. A refusal leaves all as they were.
 pub fn read_hour_file(
@@ -52,5 +66,5 @@ pub fn read_hour_file(
     if !begins_with(file, &HEADER) {
         return FileAnswer::Refused(13);
     }
-    read_body(file, HEADER.len(), entries, exits, titles, poolings)
+    answer(read_body(file, HEADER.len(), entries, exits, titles, poolings))
 }

@@ -76,6 +76,7 @@ fieldsOf l =
 abbrev pub rowOf : List ℕ → Line
 rowOf l = cond (isForm l) (fieldsOf l) (Faulty 14)
 
--- "All lines have the first line's h and z; g runs 0, 1, 2 and on, to 127 at most": a row may stand at place k, after a first line with h and z
+-- "All lines have the first line's h and z; g runs 0, 1, 2 and on, to 127 at most": a row may stand at place k, after a first line with
+-- h and z
 abbrev pub follows : ℕ → ℕ → ℕ → Row → Bool
 follows h z k r = (eqb (r .hour) h && eqb (r .zone) z) && (eqb (r .place) k && ltb k 128)

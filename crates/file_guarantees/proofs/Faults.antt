@@ -11,7 +11,8 @@ use Rattle.allocation_row.specs.Rows.{rowOf, follows}
 use Rattle.allocation_row.specs.declared.Row.{Row}
 use Rattle.allocation_row.specs.declared.Line.{Line}
 use Rattle.allocation_row.specs.declared.Line.the-variants.{Good, Faulty}
-use Rattle.allocation_file.specs.File.{File, header, linesOf, refused, read, withRow, turn, inTurn, underFirst, bodyOf, fileOf}
+use Rattle.allocation_lines.specs.Turns.{File, refused, read, withRow, turn, inTurn, underFirst, bodyOf}
+use Rattle.allocation_file.specs.File.{header, linesOf, fileOf}
 use Rattle.file_guarantees.specs.Guarantees.{Fault, byItself, inItsTurn}
 use Rattle.file_guarantees.proofs.Rows.{Either, MadeOf, either}
 use Rattle.file_guarantees.proofs.Obeyed.{Turned, first, no-row, no-line, turn-first, body-turns}

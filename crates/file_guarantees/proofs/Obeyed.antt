@@ -15,7 +15,8 @@ use Rattle.allocation_row.specs.declared.Row.{Row}
 use Rattle.allocation_row.specs.declared.Line.{Line}
 use Rattle.allocation_row.specs.declared.Line.the-variants.{Good, Faulty}
 use Rattle.allocation_row.proofs.Follows.{Follows, follows-means, means-follows}
-use Rattle.allocation_file.specs.File.{File, refused, read, withRow, turn, inTurn, underFirst, bodyOf, header, linesOf, fileOf}
+use Rattle.allocation_lines.specs.Turns.{File, refused, read, withRow, turn, inTurn, underFirst, bodyOf}
+use Rattle.allocation_file.specs.File.{header, linesOf, fileOf}
 use Rattle.file_guarantees.specs.Guarantees.{Standing, Obeys}
 
 -- ---- lines that stand in their turn, from place k on

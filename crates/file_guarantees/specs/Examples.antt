@@ -9,7 +9,8 @@ use Rattle.integers.specs.Lists.{tabulate}
 use Rattle.text.specs.Bytes.{bytes}
 use Rattle.text.specs.Decimals.{digits}
 use Rattle.allocation_row.specs.declared.Row.{Row}
-use Rattle.allocation_file.specs.File.{File, refused, read, header, outcome, answerOf, listOf}
+use Rattle.allocation_lines.specs.Turns.{File, refused, read}
+use Rattle.allocation_file.specs.File.{header, outcome, answerOf, listOf}
 use Rattle.allocation_file.specs.declared.FileAnswer.the-variants.{Read}
 
 -- a file, the number of places of each list that is lent with it, and the outcome

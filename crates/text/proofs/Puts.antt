@@ -5,7 +5,11 @@ use Prim.Native.Nat.{ℕ, _+_, _≤_, _<_}
 use native.Mathlib.Numerals.{add-one}
 use native.Mathlib.Omega.{arith}
 use lib.ListN.{length, take, drop, set, length-append, length-drop}
+use lib.IntN.{ℤ}
 use lib.Seq.{length-take-le, take-at, drop-append-add, drop-drop, set-split, append-snoc, take-length, paste, paste-zero}
+use mir.Syntax.{w64}
+use mir.Val.{SFits, toZ, ofZ}
+use Rattle.integers.proofs.Machine.{read}
 use Rattle.text.specs.Puts.{Put}
 
 drop-past : (p d : List ℕ) (n k : ℕ) → length p ≡ n → drop (n + k) (p ++ d) ≡ drop k d
@@ -59,3 +63,8 @@ put-all out at text out′ i h e k = record { ends = rw e; room = h; bytes = k �
 
 pub put-none : (out : List ℕ) (at : ℕ) → at ≤ length out → Put out at [] out at
 put-none out at h = record { ends = omega arith; room = omega arith; bytes = paste-zero out at [] }
+
+-- the text of a number of 64 bits, which a function's proof reads back from its bits, and where it ends at most
+pub put-read : (text : ℤ → List ℕ) {x : ℤ} → SFits w64 x → {out out′ : List ℕ} {at r n : ℕ}
+    → Put out at (text (toZ w64 (ofZ w64 x))) out′ r × (r ≤ n) → Put out at (text x) out′ r × (r ≤ n)
+put-read text f p = rw (read f) at p

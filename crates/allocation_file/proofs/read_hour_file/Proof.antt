@@ -7,7 +7,7 @@ use borrow.Author.Needs.{needs}
 use borrow.Author.Tests.{not-true, not-false}
 use Rattle.allocation_file.specs.File.{all128}
 use Rattle.allocation_file.proofs.Header.{wrong-length, other-header, right-header, lent}
-use Rattle.allocation_file.proofs.Stores.{refusal, called}
+use Rattle.allocation_file.proofs.Calls.{refusal, called}
 use Rattle.allocation_file.proofs.read_hour_file.Statement.{statement}
 use Rattle.allocation_file.proofs.read_hour_file.Tie as tie
 
@@ -54,6 +54,9 @@ read-body-requires c κs =
     let a = start e .args in
     lent (now (a .file)) (now (a .entries)) (now (a .exits)) (now (a .titles)) (now (a .poolings)) (right-lengths e)
 
+answer-requires : tie.Need-answer-requires
+answer-requires c κs = search needs
+
 same-length : tie.Need-same-length
 same-length c = search needs
 
@@ -68,15 +71,16 @@ same-length-4 c = search needs
 
 returns-3 : tie.Need-returns-3
 returns-3 c =
-    let b = c .before .before .before .before in
+    let b = c .before .before .before .before .before in
     let h = b .before .before .before .before .before in
     let e = h .before .before .before in
     let a = start e .args in
-    called (now (a .file)) _ _
+    let done = called (now (a .file)) _ (b .read-body .result)
     (right-header (now (a .file)) (now (a .entries)) (now (a .exits)) (now (a .titles)) (now (a .poolings))
     (right-lengths e)
     (sym (h .before .begins-with .ensures) ∙ not-false _ (h .if2 .left)))
-    (b .read-body .ensures)
+    (b .read-body .ensures) in
+    rw (c .answer .ensures) done
 
 pub read-hour-file-spec : {M : Type 1} → statement M
 read-hour-file-spec =
@@ -88,6 +92,7 @@ read-hour-file-spec =
     begins-with-requires
     returns-2
     read-body-requires
+    answer-requires
     same-length
     same-length-2
     same-length-3

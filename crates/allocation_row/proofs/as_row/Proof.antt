@@ -68,7 +68,13 @@ returns-5 c =
     let place = entry .before .before .before in
     let zone = place .before .before .before in
     let hour = zone .before .before .before in
-    rw (hour .hour .given .1, zone .zone .given .1, place .place .given .1, entry .entry .given .1, c .enum-told5 .given .1)
+    rw (
+      hour .hour .given .1,
+      zone .zone .given .1,
+      place .place .given .1,
+      entry .entry .given .1,
+      c .enum-told5 .given .1,
+    )
 
 enum-known-title : tie.Need-enum-known-title
 enum-known-title c = search needs
@@ -84,7 +90,14 @@ returns-6 c =
     let place = entry .before .before .before in
     let zone = place .before .before .before in
     let hour = zone .before .before .before in
-    rw (hour .hour .given .1, zone .zone .given .1, place .place .given .1, entry .entry .given .1, exit .exit .given .1, c .enum-told6 .given .1)
+    rw (
+      hour .hour .given .1,
+      zone .zone .given .1,
+      place .place .given .1,
+      entry .entry .given .1,
+      exit .exit .given .1,
+      c .enum-told6 .given .1,
+    )
 
 enum-known-pooling : tie.Need-enum-known-pooling
 enum-known-pooling c = search needs
@@ -101,7 +114,15 @@ returns-7 c =
     let place = entry .before .before .before in
     let zone = place .before .before .before in
     let hour = zone .before .before .before in
-    rw (hour .hour .given .1, zone .zone .given .1, place .place .given .1, entry .entry .given .1, exit .exit .given .1, title .title .given .1, c .enum-told7 .given .1)
+    rw (
+      hour .hour .given .1,
+      zone .zone .given .1,
+      place .place .given .1,
+      entry .entry .given .1,
+      exit .exit .given .1,
+      title .title .given .1,
+      c .enum-told7 .given .1,
+    )
 
 returns-8 : tie.Need-returns-8
 unfolding asRow
@@ -113,7 +134,15 @@ returns-8 c =
     let place = entry .before .before .before in
     let zone = place .before .before .before in
     let hour = zone .before .before .before in
-    rw (hour .hour .given .1, zone .zone .given .1, place .place .given .1, entry .entry .given .1, exit .exit .given .1, title .title .given .1, pooling .pooling .given .1) (search needs)
+    rw (
+      hour .hour .given .1,
+      zone .zone .given .1,
+      place .place .given .1,
+      entry .entry .given .1,
+      exit .exit .given .1,
+      title .title .given .1,
+      pooling .pooling .given .1,
+    ) (search needs)
 
 pub as-row-spec : {M : Type 1} → statement M
 as-row-spec =

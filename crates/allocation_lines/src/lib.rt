@@ -1,36 +1,35 @@
-// The lines after the header, in turn.
+// The lines of an hour's file, taken in turn from where its header ends. The rules are in specs/.
 ghost use mathlib.Core.Path.{_≡_};
 ghost use Prim.Native.Nat.{_≤_};
 ghost use lib.ListN.{drop};
 ghost use Rattle.csv.specs.Lines.{lines};
-ghost use Rattle.allocation_file.specs.File.{inTurn, bodyOf, answered};
-ghost use Rattle.allocation_file.specs.Steps.{Lent, After, isRefused};
-use super::FileAnswer;
-use super::FileRead;
+ghost use Rattle.allocation_lines.specs.Turns.{inTurn, bodyOf};
+ghost use Rattle.allocation_lines.specs.Steps.{Lent, After, isRefused};
 use allocation_row::Line;
 use allocation_row::follows_on;
 use allocation_row::read_row;
 use allocation_row::store;
 use csv::line_at;
 
-// The answer to a file that is read, in the caller's signed numbers.
-fn answer_read(hour: u32, zone: u32, lines: usize) -> FileAnswer
-    requires { ⌜ lines ≤ 128 ⌝ }
-    ensures { λ r. ⌜ r ≡ answered hour zone lines ⌝ }
-{
-    FileAnswer::Read(FileRead {
-        hour: integers::signed(hour as u64),
-        zone: integers::signed(zone as u64),
-        lines: integers::signed(lines as u64),
-    })
+// What lines that are read say besides their amounts: the hour, the zone's number and how many lines there are.
+pub struct LinesRead {
+    pub hour: u32,
+    pub zone: u32,
+    pub lines: u32,
 }
 
-fn is_refused(answer: FileAnswer) -> bool
+// The cause of a refusal, 14 to 17, or what the lines say.
+pub enum LinesAnswer {
+    Refused(u64),
+    Read(LinesRead),
+}
+
+fn is_refused(answer: LinesAnswer) -> bool
     ensures { λ r. ⌜ r ≡ isRefused answer ⌝ }
 {
     match answer {
-        FileAnswer::Refused(_) => true,
-        FileAnswer::Read(_) => false,
+        LinesAnswer::Refused(_) => true,
+        LinesAnswer::Read(_) => false,
     }
 }
 
@@ -47,7 +46,7 @@ fn read_lines(
     exits: &mut [i64],
     titles: &mut [i64],
     poolings: &mut [i64],
-) -> FileAnswer
+) -> LinesAnswer
     requires { ⌜ (place ≤ 128) × Lent (now entries) (now exits) (now titles) (now poolings) ⌝ }
     ensures { λ r. ⌜
         After place (inTurn hour zone (lines (drop at (now (file .entry)))) place)
@@ -56,16 +55,17 @@ fn read_lines(
         (now (entries .exit)) (now (exits .exit)) (now (titles .exit)) (now (poolings .exit)) ⌝ }
 {
     if file.len() <= at {
-        return answer_read(hour, zone, place);
+        let lines = place as u32;
+        return LinesAnswer::Read(LinesRead { hour, zone, lines });
     }
     let line = line_at(file, at);
     let next = at + line.len() + 2;
     let row = match read_row(line) {
-        Line::Faulty(cause) => return FileAnswer::Refused(cause),
+        Line::Faulty(cause) => return LinesAnswer::Refused(cause),
         Line::Good(row) => row,
     };
     if !follows_on(row, place, hour, zone) {
-        return FileAnswer::Refused(16);
+        return LinesAnswer::Refused(16);
     }
     let answer = read_lines(
         file,
@@ -94,7 +94,7 @@ pub fn read_body(
     exits: &mut [i64],
     titles: &mut [i64],
     poolings: &mut [i64],
-) -> FileAnswer
+) -> LinesAnswer
     requires { ⌜ Lent (now entries) (now exits) (now titles) (now poolings) ⌝ }
     ensures { λ r. ⌜
         After 0 (bodyOf (lines (drop at (now (file .entry)))))
@@ -103,10 +103,10 @@ pub fn read_body(
         (now (entries .exit)) (now (exits .exit)) (now (titles .exit)) (now (poolings .exit)) ⌝ }
 {
     if file.len() <= at {
-        return FileAnswer::Refused(17);
+        return LinesAnswer::Refused(17);
     }
     match read_row(line_at(file, at)) {
-        Line::Faulty(cause) => FileAnswer::Refused(cause),
+        Line::Faulty(cause) => LinesAnswer::Refused(cause),
         Line::Good(first) => read_lines(
             file,
             at,

@@ -3,7 +3,7 @@ use mathlib.Core.Path.{_≡_, refl, sym, ap, _∙_}
 use mathlib.Core.Bool.{true, false, false≢true}
 use mathlib.Core.List.{List, [], _∷_, _++_, map}
 use Prim.Native.Nat.{ℕ, suc, _+_, _<_}
-use native.Mathlib.Nat.{add-zero, zero-add}
+use native.Mathlib.Nat.{add-zero}
 use native.Mathlib.Numerals.{add-one}
 use native.Mathlib.Omega.{arith}
 use lib.IntN.{ℤ, pos}
@@ -11,20 +11,21 @@ use lib.ListN.{length, getD, take, drop, set, take-append-drop}
 use lib.Seq.{take-suc, append-snoc, set-at, length-take-le}
 use Rattle.allocation_row.specs.declared.Row.{Row}
 use Rattle.allocation_row.specs.Steps.{Stored}
-use Rattle.allocation_file.specs.File.{File, refused, read, withRow, answered, outcome, ReadHour}
-use Rattle.allocation_file.specs.Steps.{Lent, listFrom, isRefused, After}
-use Rattle.allocation_file.specs.declared.FileAnswer.{FileAnswer}
-use Rattle.allocation_file.specs.declared.FileAnswer.the-variants.{Refused}
+use Rattle.allocation_lines.specs.Turns.{File, refused, read, withRow}
+use Rattle.allocation_lines.specs.Steps.{Lent, answerFrom, listFrom, isRefused, After}
+use Rattle.allocation_lines.specs.declared.LinesAnswer.{LinesAnswer}
+use Rattle.allocation_lines.specs.declared.LinesAnswer.the-variants.{Refused, Read}
 
 -- ---- no list is touched
 pub after-refused : {k n : ℕ} {f : File} {a b c d : List ℤ} → f ≡ refused n → After k f a b c d (Refused n) a b c d
 after-refused e = rw e record { answer = refl; entries = refl; exits = refl; titles = refl; poolings = refl }
 
 -- after the last line
-pub after-end : {k h z : ℕ} {f : File} {a b c d : List ℤ} → f ≡ read h z [] → After k f a b c d (answered h z k) a b c d
+pub after-end : {k h z : ℕ} {f : File} {a b c d : List ℤ} → f ≡ read h z []
+    → After k f a b c d (Read (record { hour = h; zone = z; lines = k })) a b c d
 after-end {k} {h} {z} {f} {a} {b} {c} {d} e =
     rw e record {
-      answer = ap (answered h z) (sym (add-zero k));
+      answer = rw add-zero;
       entries = same a;
       exits = same b;
       titles = same c;
@@ -37,7 +38,7 @@ after-end {k} {h} {z} {f} {a} {b} {c} {d} e =
 -- ---- one row more
 module _ (k : ℕ) (r : Row) where
   -- the lines after it are refused
-  pub after-rest : (f : File) (u : FileAnswer) {a b c d a′ b′ c′ d′ : List ℤ} → isRefused u ≡ true
+  pub after-rest : (f : File) (u : LinesAnswer) {a b c d a′ b′ c′ d′ : List ℤ} → isRefused u ≡ true
       → After (k + 1) f a b c d u a′ b′ c′ d′ → After k (withRow r f) a b c d u a′ b′ c′ d′
   after-rest (refused m) u e w =
       record { answer = w .answer; entries = w .entries; exits = w .exits; titles = w .titles; poolings = w .poolings }
@@ -53,7 +54,7 @@ module _ (k : ℕ) (r : Row) where
       (length-take-le k xs (omega arith)))
 
   -- the lines after it are read, and it is stored
-  pub after-stored : (f : File) (u : FileAnswer) {a b c d a′ b′ c′ d′ a″ b″ c″ d″ : List ℤ}
+  pub after-stored : (f : File) (u : LinesAnswer) {a b c d a′ b′ c′ d′ a″ b″ c″ d″ : List ℤ}
       → Lent a b c d → k < 128 → isRefused u ≡ false
       → After (k + 1) f a b c d u a′ b′ c′ d′ → Stored r k a′ b′ c′ d′ a″ b″ c″ d″
       → After k (withRow r f) a b c d u a″ b″ c″ d″
@@ -61,33 +62,9 @@ module _ (k : ℕ) (r : Row) where
   after-stored (read h z rs) u {a} {b} {c} {d} l g e w s =
       let i : k + 1 + length rs ≡ k + suc (length rs) = omega arith in
       record {
-        answer = w .answer ∙ ap (answered h z) i;
+        answer = w .answer ∙ rw i;
         entries = s .entries ∙ rw (w .entries) (put (λ w. w .entry) h z rs a (omega arith));
         exits = s .exits ∙ rw (w .exits) (put (λ w. w .exit) h z rs b (omega arith));
         titles = s .titles ∙ rw (w .titles) (put (λ w. w .title) h z rs c (omega arith));
         poolings = s .poolings ∙ rw (w .poolings) (put (λ w. w .pooling) h z rs d (omega arith));
       }
-
--- ---- the call: no line stands before
-pub called : (s : List ℕ) (f : File) (u : FileAnswer) {a b c d a′ b′ c′ d′ : List ℤ}
-    → outcome s a b c d ≡ f → After 0 f a b c d u a′ b′ c′ d′ → ReadHour s a b c d u a′ b′ c′ d′
-called s (refused n) u e w = record {
-  answer = rw e (w .answer);
-  entries = rw e (w .entries);
-  exits = rw e (w .exits);
-  titles = rw e (w .titles);
-  poolings = rw e (w .poolings);
-}
-called s (read h z rs) u e w =
-    let n = zero-add (length rs) in
-    record {
-      answer = rw e (rw n at (w .answer));
-      entries = rw e (rw n at (w .entries));
-      exits = rw e (rw n at (w .exits));
-      titles = rw e (rw n at (w .titles));
-      poolings = rw e (rw n at (w .poolings));
-    }
-
--- a refused call
-pub refusal : {s : List ℕ} {a b c d : List ℤ} {n : ℕ} → outcome s a b c d ≡ refused n → ReadHour s a b c d (Refused n) a b c d
-refusal {s} {a} {b} {c} {d} {n} e = called s (refused n) (Refused n) e (after-refused refl)

@@ -19,16 +19,15 @@ use Rattle.allocation_row.proofs.Follows.{follows-means}
 use Rattle.allocation_row.proofs.read_row.Reads as read-row-reads
 use Rattle.allocation_row.proofs.follows_on.Reads as follows-on-reads
 use Rattle.allocation_row.proofs.store.Reads as store-reads
-use Rattle.allocation_file.specs.File.{File, withRow, inTurn}
-use Rattle.allocation_file.proofs.Turns.{turns-end, turn-faulty, turn-other, turn-row}
-use Rattle.allocation_file.proofs.Stores.{after-refused, after-end, after-rest, after-stored}
-use Rattle.allocation_file.proofs.body.read_lines.Reads as read-lines
-use Rattle.allocation_file.proofs.body.read_lines.Kinds as read-lines-kinds
-use Rattle.allocation_file.proofs.body.+read_lines.Lts-read_lines as lts
-use Rattle.allocation_file.proofs.body.answer_read.Reads as answer-read-reads
-use Rattle.allocation_file.proofs.body.is_refused.Reads as is-refused-reads
-use Rattle.allocation_file.proofs.body.+read_lines.{statement}
-use Rattle.allocation_file.proofs.body.+read_lines.Tie.{close}
+use Rattle.allocation_lines.specs.Turns.{File, withRow, inTurn}
+use Rattle.allocation_lines.proofs.Turns.{turns-end, turn-faulty, turn-other, turn-row}
+use Rattle.allocation_lines.proofs.Stores.{after-refused, after-end, after-rest, after-stored}
+use Rattle.allocation_lines.proofs.read_lines.Reads as read-lines
+use Rattle.allocation_lines.proofs.read_lines.Kinds as read-lines-kinds
+use Rattle.allocation_lines.proofs.+read_lines.Lts-read_lines as lts
+use Rattle.allocation_lines.proofs.is_refused.Reads as is-refused-reads
+use Rattle.allocation_lines.proofs.+read_lines.{statement}
+use Rattle.allocation_lines.proofs.+read_lines.Tie.{close}
 
 abbrev μ : Measures 5 read-lines-kinds.ps ℕ
 μ κs a = length (now (a .0)) - a .1 .0
@@ -43,8 +42,6 @@ below-pre t = and 5 read-lines-kinds.ps (falls 5 read-lines-kinds.ps _<_ μ t) r
 -- what the calls ask and say
 abbrev claims : ℕ → lts.Claims
 claims t = (
-  answer-read-reads.Asked,
-  answer-read-reads.Learnt,
   line-at-reads.Asked,
   line-at-reads.Learnt,
   read-row-reads.Asked,
@@ -116,14 +113,13 @@ turned t c = c .before .before .before .before .before
 
 -- ---- the needs
 
-answer-read-requires : (t : ℕ) → lts.Need-answer-read-requires (claims t) (pre t) read-lines.Post
-answer-read-requires t c κs = search needs
+cast-lines : (t : ℕ) → lts.Need-cast-lines (claims t) (pre t) read-lines.Post
+cast-lines t c = search needs
 
 returns : (t : ℕ) → lts.Need-returns (claims t) (pre t) read-lines.Post
 returns t c =
-    let a = c .before .before .before .args in
-    rw (c .answer-read .ensures)
-    (after-end (turns-end (now (a .file)) (a .at) (c .before .if1 .taken) (a .hour) (a .zone) (a .place)))
+    let a = c .before .before .args in
+    after-end (turns-end (now (a .file)) (a .at) (c .if1 .taken) (a .hour) (a .zone) (a .place))
 
 line-at-requires : (t : ℕ) → lts.Need-line-at-requires (claims t) (pre t) read-lines.Post
 line-at-requires t c κs = search needs
@@ -235,7 +231,7 @@ pub +read-lines-spec : {M : Type 1} → statement M
 +read-lines-spec = close μ λ t. lts.spec (claims t)
     (pre t)
     read-lines.Post
-    (answer-read-requires t)
+    (cast-lines t)
     (returns t)
     (line-at-requires t)
     (add-next t)

@@ -2,10 +2,10 @@
 use mathlib.Core.Path.{sym, _∙_}
 use denote.Ref.{now}
 use borrow.Author.Needs.{needs}
-use Rattle.allocation_file.proofs.Turns.{body-none, body-faulty, body-row}
-use Rattle.allocation_file.proofs.Stores.{after-refused}
-use Rattle.allocation_file.proofs.body.read_body.Statement.{statement}
-use Rattle.allocation_file.proofs.body.read_body.Tie as tie
+use Rattle.allocation_lines.proofs.Turns.{body-none, body-faulty, body-row}
+use Rattle.allocation_lines.proofs.Stores.{after-refused}
+use Rattle.allocation_lines.proofs.read_body.Statement.{statement}
+use Rattle.allocation_lines.proofs.read_body.Tie as tie
 
 returns : tie.Need-returns
 returns c =

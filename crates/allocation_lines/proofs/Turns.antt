@@ -10,7 +10,7 @@ use Rattle.csv.proofs.Lines.{lines-at, lines-end}
 use Rattle.allocation_row.specs.Rows.{rowOf, follows}
 use Rattle.allocation_row.specs.declared.Row.{Row}
 use Rattle.allocation_row.specs.declared.Line.the-variants.{Good, Faulty}
-use Rattle.allocation_file.specs.File.{refused, read, withRow, turn, inTurn, underFirst, bodyOf}
+use Rattle.allocation_lines.specs.Turns.{refused, read, withRow, turn, inTurn, underFirst, bodyOf}
 
 -- ---- no line is left
 module _ (s : List ℕ) (at : ℕ) (p : length s ≤ at) where
