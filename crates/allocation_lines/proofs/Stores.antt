@@ -1,5 +1,5 @@
 -- The answer and the four lists at each way out of the reading of the lines from place k on. Assumes nothing.
-use mathlib.Core.Path.{_≡_, refl, sym, ap, _∙_}
+use mathlib.Core.Path.{_≡_, refl, sym, _∙_}
 use mathlib.Core.Bool.{true, false, false≢true}
 use mathlib.Core.List.{List, [], _∷_, _++_, map}
 use Prim.Native.Nat.{ℕ, suc, _+_, _<_}
@@ -12,7 +12,7 @@ use lib.Seq.{take-suc, append-snoc, set-at, length-take-le}
 use Rattle.allocation_row.specs.declared.Row.{Row}
 use Rattle.allocation_row.specs.Steps.{Stored}
 use Rattle.allocation_lines.specs.Turns.{File, refused, read, withRow}
-use Rattle.allocation_lines.specs.Steps.{Lent, answerFrom, listFrom, isRefused, After}
+use Rattle.allocation_lines.specs.Steps.{Lent, listFrom, isRefused, After}
 use Rattle.allocation_lines.specs.declared.LinesAnswer.{LinesAnswer}
 use Rattle.allocation_lines.specs.declared.LinesAnswer.the-variants.{Refused, Read}
 
