@@ -1,71 +1,27 @@
 -- The file, and the call that reads it. Assumes nothing.
-use Prim.Native.Nat.{ℕ, _+_}
+use Prim.Native.Nat.{ℕ}
 use mathlib.Core.Path.{_≡_}
-use mathlib.Core.Bool.{Bool, true, false, _&&_, cond}
-use mathlib.Core.List.{List, [], _∷_, _++_, map}
-use lib.Dec.{eqb, ltb}
+use mathlib.Core.Bool.{Bool, _&&_, cond}
+use mathlib.Core.List.{List, _++_, map}
+use lib.Dec.{eqb}
 use lib.IntN.{ℤ, pos}
 use lib.ListN.{length, drop}
-use Rattle.allocation_file.specs.Bytes.{bytes}
-use Rattle.allocation_file.specs.Lines.{lines}
-use Rattle.allocation_file.specs.Rows.{rowOf}
-use Rattle.allocation_file.specs.declared.row.Row.{Row}
-use Rattle.allocation_file.specs.declared.row.Line.{Line}
-use Rattle.allocation_file.specs.declared.row.Line.the-variants.{Good, Faulty}
+use Rattle.text.specs.Bytes.{bytes}
+use Rattle.csv.specs.Lines.{begins, lines}
+use Rattle.allocation_row.specs.declared.Row.{Row}
+use Rattle.allocation_lines.specs.Turns.{File, refused, read, bodyOf}
 use Rattle.allocation_file.specs.declared.FileAnswer.{FileAnswer}
 use Rattle.allocation_file.specs.declared.FileAnswer.the-variants.{Refused, Read}
 
--- ---- the header
+-- ---- the file
 
 -- "The file opens with the 25 bytes .."
 abbrev pub header : List ℕ
 header = bytes "h,z,g,EEA,XEA,NCTTN,IPT\r\n"
 
--- s begins with the bytes of the second list
-abbrev pub begins : List ℕ → List ℕ → Bool
-begins s [] = true
-begins [] (x ∷ xs) = false
-begins (y ∷ ys) (x ∷ xs) = eqb y x && begins ys xs
-
 -- the lines after the header
 abbrev pub linesOf : List ℕ → List (List ℕ)
 linesOf s = lines (drop (length header) s)
-
--- ---- what a file says
-
--- the cause of its refusal; or the hour, the zone's number and a row for each line
-pub data File : Type 0 where
-  refused : ℕ → File
-  read : ℕ → ℕ → List Row → File
-
--- one row more at the front
-abbrev pub withRow : Row → File → File
-withRow r (refused c) = refused c
-withRow r (read h z rs) = read h z (r ∷ rs)
-
--- "All lines have the first line's h and z; g runs 0, 1, 2 and on, to 127 at most": a row may stand at place k, after a first line with h and z
-abbrev pub follows : ℕ → ℕ → ℕ → Row → Bool
-follows h z k r = (eqb (r .hour) h && eqb (r .zone) z) && (eqb (r .place) k && ltb k 128)
-
--- one line in its turn: 14 or 15, then 16, then the lines after it
-abbrev pub turn : Line → ℕ → ℕ → ℕ → (ℕ → File) → File
-turn (Faulty c) h z k on = refused c
-turn (Good r) h z k on = cond (follows h z k r) (withRow r (on (k + 1))) (refused 16)
-
--- "the lines are taken in turn", from place k on
-abbrev pub inTurn : ℕ → ℕ → List (List ℕ) → ℕ → File
-inTurn h z [] k = read h z []
-inTurn h z (l ∷ ls) k = turn (rowOf l) h z k (inTurn h z ls)
-
--- the first line gives h and z, and is then taken in its turn
-abbrev pub underFirst : Line → List (List ℕ) → File
-underFirst (Faulty c) ls = refused c
-underFirst (Good r) ls = inTurn (r .hour) (r .zone) ls 0
-
--- all lines: "At least one further line follows"
-abbrev pub bodyOf : List (List ℕ) → File
-bodyOf [] = refused 17
-bodyOf (l ∷ ls) = underFirst (rowOf l) (l ∷ ls)
 
 -- the whole file: 13, then what its lines say
 unfoldable pub fileOf : List ℕ → File

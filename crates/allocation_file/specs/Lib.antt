@@ -1,8 +1,4 @@
--- What an hour's file is, in the order in which to read it: bytes, lines and fields, numbers, rows, the file and the call; then what is proved of every file, and
--- small files. `Steps` is not needed to believe the call: it has what the contracts between the reader's own functions are written with.
-pub mod Bytes
-pub mod Lines
-pub mod Numbers
-pub mod Rows
+-- What an hour's file is and what the call that reads it does: `File`, over the lines of `allocation_lines`. `Steps` is not needed to
+-- believe the call: it has what the contract of one of its own functions says.
 pub mod File
 pub mod Steps

@@ -1,15 +1,14 @@
 // The reader of an hour's allocation file: one public call, `read_hour_file`. What the file's rules are is in specs/.
 ghost use mathlib.Core.Path.{_≡_};
-ghost use Rattle.allocation_file.specs.File.{begins, all128, ReadHour};
-use body::read_body;
+ghost use Rattle.allocation_file.specs.File.{all128, ReadHour};
+ghost use Rattle.allocation_file.specs.Steps.{answerTo};
+use allocation_lines::LinesAnswer;
+use allocation_lines::read_body;
+use csv::begins_with;
 use integers::both;
 
-mod body;
-mod number;
-mod row;
-mod split;
-
-// What a file that is read says besides its amounts: the hour, the zone's number (0 is H, 1 is L) and the number of lines.
+// What a file that is read says besides its amounts: the hour, the zone's number (0 is H, 1 is L) and the number of
+// lines.
 pub struct FileRead {
     pub hour: i64,
     pub zone: i64,
@@ -25,23 +24,6 @@ pub enum FileAnswer {
 // The bytes that a file opens with.
 const HEADER: [u8; 25] = *b"h,z,g,EEA,XEA,NCTTN,IPT\r\n";
 
-// Whether `file` begins with `head`.
-fn begins_with(file: &[u8], head: &[u8]) -> bool
-    ensures { λ r. ⌜ r ≡ begins (now (file .entry)) (now (head .entry)) ⌝ }
-{
-    let mut i = 0;
-    while i < head.len() {
-        if file.len() <= i {
-            return false;
-        }
-        if file[i] != head[i] {
-            return false;
-        }
-        i += 1;
-    }
-    true
-}
-
 // Whether all four lengths are 128.
 fn all_128(a: usize, b: usize, c: usize, d: usize) -> bool
     ensures { λ r. ⌜ r ≡ all128 a b c d ⌝ }
@@ -49,7 +31,22 @@ fn all_128(a: usize, b: usize, c: usize, d: usize) -> bool
     both(both(a == 128, b == 128), both(c == 128, d == 128))
 }
 
-// Reads the file into the four lists: as many places are filled as the file has lines, and the others stay as they were. A refusal leaves all as they were.
+// The lines' answer in the caller's signed numbers.
+fn answer(lines: LinesAnswer) -> FileAnswer
+    ensures { λ r. ⌜ r ≡ answerTo lines ⌝ }
+{
+    match lines {
+        LinesAnswer::Refused(cause) => FileAnswer::Refused(cause),
+        LinesAnswer::Read(read) => FileAnswer::Read(FileRead {
+            hour: integers::signed(read.hour as u64),
+            zone: integers::signed(read.zone as u64),
+            lines: integers::signed(read.lines as u64),
+        }),
+    }
+}
+
+// Reads the file into the four lists: as many places are filled as the file has lines, and the others stay as they
+// were. A refusal leaves all as they were.
 pub fn read_hour_file(
     file: &[u8],
     entries: &mut [i64],
@@ -57,7 +54,11 @@ pub fn read_hour_file(
     titles: &mut [i64],
     poolings: &mut [i64],
 ) -> FileAnswer
-    ensures { λ r. ⌜ ReadHour (now (file .entry)) (now (entries .entry)) (now (exits .entry)) (now (titles .entry)) (now (poolings .entry)) r (now (entries .exit)) (now (exits .exit)) (now (titles .exit)) (now (poolings .exit)) ⌝ }
+    ensures { λ r. ⌜
+        ReadHour (now (file .entry))
+        (now (entries .entry)) (now (exits .entry)) (now (titles .entry)) (now (poolings .entry))
+        r
+        (now (entries .exit)) (now (exits .exit)) (now (titles .exit)) (now (poolings .exit)) ⌝ }
 {
     if !all_128(entries.len(), exits.len(), titles.len(), poolings.len()) {
         return FileAnswer::Refused(12);
@@ -65,5 +66,5 @@ pub fn read_hour_file(
     if !begins_with(file, &HEADER) {
         return FileAnswer::Refused(13);
     }
-    read_body(file, HEADER.len(), entries, exits, titles, poolings)
+    answer(read_body(file, HEADER.len(), entries, exits, titles, poolings))
 }

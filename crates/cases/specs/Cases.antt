@@ -24,8 +24,9 @@ use Rattle.rules.specs.Answers.{openTable, hourAnswer, hourTable, hourQuantity,
 use Rattle.rules.specs.History.{State, hour, step}
 use Rattle.allocation_file.specs.declared.FileAnswer.{FileAnswer}
 use Rattle.allocation_file.specs.declared.FileAnswer.the-variants.{Refused, Read}
-use Rattle.allocation_file.specs.Bytes.{bytes}
-use Rattle.allocation_file.specs.File.{File, outcome, answerOf, listOf}
+use Rattle.text.specs.Bytes.{bytes}
+use Rattle.allocation_lines.specs.Turns.{File}
+use Rattle.allocation_file.specs.File.{outcome, answerOf, listOf}
 use Rattle.file_guarantees.specs.Examples.{caseAText}
 
 -- what a case says: numbers, or the whole answer of an hour or of a closing

@@ -10,7 +10,8 @@ ghost use Rattle.rules.specs.Guarantees.{BeginsAtZero, AcceptedIfFit, Conservat
 ghost use Rattle.file_guarantees.specs.Guarantees.{ReadIfObeyed, FirstFaultDecides, AcceptedObeys, CauseGiven, SmallNumbers};
 ghost use Rattle.file_guarantees.specs.Examples.{ExamplesComputed, CaseA};
 ghost use Rattle.flat.specs.Guarantees.{RecordKept, OddMarkRefused};
-ghost use Rattle.report.specs.Examples.{DecimalsShown, CaseAShown, RefusalShown};
+ghost use Rattle.text.specs.Examples.{DecimalsShown};
+ghost use Rattle.report.specs.Examples.{CaseAShown, RefusalShown};
 ghost use Rattle.cases.specs.Cases.{AllFigures};
 ghost use Rattle.cases.specs.Examples.{WholeDay, TwelveUsers, Defaults};
 

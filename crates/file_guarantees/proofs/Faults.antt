@@ -6,12 +6,14 @@ use Prim.Native.Nat.{ℕ, suc, _+_, _≤_}
 use native.Mathlib.Nat.{add-zero, zero-add}
 use native.Mathlib.Omega.{arith}
 use lib.ListN.{length}
-use Rattle.allocation_file.specs.Rows.{rowOf}
-use Rattle.allocation_file.specs.File.{File, header, begins, linesOf, refused, read, withRow, follows, turn, inTurn, underFirst, bodyOf, fileOf}
+use Rattle.csv.specs.Lines.{begins}
+use Rattle.allocation_row.specs.Rows.{rowOf, follows}
+use Rattle.allocation_row.specs.declared.Row.{Row}
+use Rattle.allocation_row.specs.declared.Line.{Line}
+use Rattle.allocation_row.specs.declared.Line.the-variants.{Good, Faulty}
+use Rattle.allocation_lines.specs.Turns.{File, refused, read, withRow, turn, inTurn, underFirst, bodyOf}
+use Rattle.allocation_file.specs.File.{header, linesOf, fileOf}
 use Rattle.file_guarantees.specs.Guarantees.{Fault, byItself, inItsTurn}
-use Rattle.allocation_file.specs.declared.row.Row.{Row}
-use Rattle.allocation_file.specs.declared.row.Line.{Line}
-use Rattle.allocation_file.specs.declared.row.Line.the-variants.{Good, Faulty}
 use Rattle.file_guarantees.proofs.Rows.{Either, MadeOf, either}
 use Rattle.file_guarantees.proofs.Obeyed.{Turned, first, no-row, no-line, turn-first, body-turns}
 
@@ -34,16 +36,20 @@ before-fault h z k n (b ∷ before) ls (r ∷ rows) t e =
     turn-first h z b (before ++ ls) k r (f .is) (f .follows) ∙ rw (before-fault h z (k + 1) n before ls rows (f .rest) (rw q at e))
 
 -- the first line gives the hour and the zone
-pub body-fault : (h z n : ℕ) (before : List (List ℕ)) (l : List ℕ) (after : List (List ℕ)) (rows : List Row) → Turned h z before 0 rows
-    → Fault h z (length rows) l n → bodyOf (before ++ l ∷ after) ≡ refused n
+pub body-fault : (h z n : ℕ) (before : List (List ℕ)) (l : List ℕ) (after : List (List ℕ)) (rows : List Row)
+    → Turned h z before 0 rows → Fault h z (length rows) l n
+    → bodyOf (before ++ l ∷ after) ≡ refused n
 body-fault h z n [] l after [] t (byItself e) = rw e
-body-fault h z n [] l after [] t (inItsTurn r e f g) = body-turns h z l after r e (g refl .0) (g refl .1) ∙ at-fault h z 0 16 l after (inItsTurn r e f g)
+body-fault h z n [] l after [] t (inItsTurn r e f g) =
+    body-turns h z l after r e (g refl .0) (g refl .1) ∙ at-fault h z 0 16 l after (inItsTurn r e f g)
 body-fault h z n [] l after (r ∷ rows) t w = absurd (no-line h z 0 r rows t)
 body-fault h z n (b ∷ before) l after [] t w = absurd (no-row h z 0 b before t)
 body-fault h z n (b ∷ before) l after (r ∷ rows) t w =
     let f = first h z b before 0 r rows t in
-    let e : inTurn h z (l ∷ after) (0 + suc (length rows)) ≡ refused n = rw (zero-add (suc (length rows))) (at-fault h z (suc (length rows)) n l after w) in
-    body-turns h z b (before ++ l ∷ after) r (f .is) (f .follows .hour) (f .follows .zone) ∙ before-fault h z 0 n (b ∷ before) (l ∷ after) (r ∷ rows) t e
+    let k = suc (length rows) in
+    let e : inTurn h z (l ∷ after) (0 + k) ≡ refused n = rw (zero-add k) (at-fault h z k n l after w) in
+    body-turns h z b (before ++ l ∷ after) r (f .is) (f .follows .hour) (f .follows .zone)
+    ∙ before-fault h z 0 n (b ∷ before) (l ∷ after) (r ∷ rows) t e
 
 -- ---- the causes, 12 to 17 with that of the lists
 abbrev InRange : ℕ → Type 0
@@ -63,11 +69,13 @@ turns-cause h z (l ∷ ls) k = line (rowOf l) (either l) (turns-cause h z ls (k 
     row r (refused c) i = i
     row r (read h z rows) i = tt
 
-    place : (r : Row) (b : Bool) → IfRefused (inTurn h z ls (k + 1)) → IfRefused (cond b (withRow r (inTurn h z ls (k + 1))) (refused 16))
+    place : (r : Row) (b : Bool) → IfRefused (inTurn h z ls (k + 1))
+        → IfRefused (cond b (withRow r (inTurn h z ls (k + 1))) (refused 16))
     place r true i = row r (inTurn h z ls (k + 1)) i
     place r false i = (omega arith, omega arith)
 
-    line : (w : Line) → Either (λ c. (14 ≤ c) × (c ≤ 15)) (MadeOf l) w → IfRefused (inTurn h z ls (k + 1)) → IfRefused (turn w h z k (inTurn h z ls))
+    line : (w : Line) → Either (λ c. (14 ≤ c) × (c ≤ 15)) (MadeOf l) w → IfRefused (inTurn h z ls (k + 1))
+        → IfRefused (turn w h z k (inTurn h z ls))
     line (Faulty c) e i = (omega arith, omega arith)
     line (Good r) e i = place r (follows h z k r) i
 

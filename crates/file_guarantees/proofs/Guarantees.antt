@@ -5,10 +5,11 @@ use Prim.Native.Nat.{ℕ}
 use native.Mathlib.Omega.{arith}
 use lib.IntN.{pos}
 use lib.ListN.{length, length-map}
-use Rattle.allocation_file.specs.Rows.{rowOf}
-use Rattle.allocation_file.specs.File.{File, refused, read, linesOf, fileOf, all128, outcome, answerOf}
+use Rattle.allocation_row.specs.Rows.{rowOf}
+use Rattle.allocation_row.specs.declared.Line.the-variants.{Good}
+use Rattle.allocation_lines.specs.Turns.{File, refused, read}
+use Rattle.allocation_file.specs.File.{linesOf, fileOf, all128, outcome, answerOf}
 use Rattle.file_guarantees.specs.Guarantees.{Obeys, ReadIfObeyed, FirstFaultDecides, Accepted, AcceptedObeys, CauseGiven, SmallNumbers}
-use Rattle.allocation_file.specs.declared.row.Line.the-variants.{Good}
 use Rattle.allocation_file.specs.declared.FileRead.{FileRead}
 use Rattle.allocation_file.specs.declared.FileAnswer.the-variants.{Read}
 use Rattle.file_guarantees.proofs.Rows.{either, nine}

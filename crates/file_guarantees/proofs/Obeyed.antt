@@ -8,14 +8,16 @@ use native.Mathlib.Omega.{arith}
 use lib.ListN.{length, take, replicate}
 use Rattle.integers.specs.Lists.{tabulate}
 use Rattle.integers.proofs.Counts.{tabulate-ext}
-use Rattle.allocation_file.specs.Rows.{rowOf}
-use Rattle.allocation_file.specs.File.{File, refused, read, withRow, follows, turn, inTurn, underFirst, bodyOf, header, begins, linesOf, fileOf}
+use Rattle.csv.specs.Lines.{begins}
+use Rattle.csv.proofs.Begins.{begins-take, take-begins}
+use Rattle.allocation_row.specs.Rows.{rowOf, follows}
+use Rattle.allocation_row.specs.declared.Row.{Row}
+use Rattle.allocation_row.specs.declared.Line.{Line}
+use Rattle.allocation_row.specs.declared.Line.the-variants.{Good, Faulty}
+use Rattle.allocation_row.proofs.Follows.{Follows, follows-means, means-follows}
+use Rattle.allocation_lines.specs.Turns.{File, refused, read, withRow, turn, inTurn, underFirst, bodyOf}
+use Rattle.allocation_file.specs.File.{header, linesOf, fileOf}
 use Rattle.file_guarantees.specs.Guarantees.{Standing, Obeys}
-use Rattle.allocation_file.specs.declared.row.Row.{Row}
-use Rattle.allocation_file.specs.declared.row.Line.{Line}
-use Rattle.allocation_file.specs.declared.row.Line.the-variants.{Good, Faulty}
-use Rattle.allocation_file.proofs.Header.{begins-take, take-begins}
-use Rattle.allocation_file.proofs.Turns.{Follows, follows-means, means-follows}
 
 -- ---- lines that stand in their turn, from place k on
 pub record Turned (h z : ℕ) (ls : List (List ℕ)) (k : ℕ) (rows : List Row) : Type 0 where
@@ -72,7 +74,13 @@ module _ (h z : ℕ) (l : List ℕ) (ls : List (List ℕ)) (k : ℕ) (r : Row) (
       record {
         is = cc (t .each);
         follows = record { hour = cc (t .hours); zone = cc (t .zones); place = rw add-zero at g; below = omega (arith, t .few) };
-        rest = record { each = cc (t .each); hours = cc (t .hours); zones = cc (t .zones); places = rw (shifted k (length rows)) at p; few = omega (arith, t .few) };
+        rest = record {
+          each = cc (t .each);
+          hours = cc (t .hours);
+          zones = cc (t .zones);
+          places = rw (shifted k (length rows)) at p;
+          few = omega (arith, t .few);
+        };
       }
 
 -- a line without a row, and a row without a line
@@ -102,7 +110,9 @@ module _ (h z : ℕ) (l : List ℕ) (ls : List (List ℕ)) (k : ℕ) (r : Row) (
   -- one row more is read
   with-row : (f : File) → Follows h z k r → IfRead (Turns h z ls (k + 1)) f → IfRead (Turns h z (l ∷ ls) k) (withRow r f)
   with-row (refused c) w t = tt
-  with-row (read h′ z′ rows) w t = record { hour = t .hour; zone = t .zone; are = with-first h z l ls k r rows (record { is = e; follows = w; rest = t .are }) }
+  with-row (read h′ z′ rows) w t =
+      let are = with-first h z l ls k r rows (record { is = e; follows = w; rest = t .are }) in
+      record { hour = t .hour; zone = t .zone; are = are }
 
   -- if it follows
   if-follows : (b : Bool) → follows h z k r ≡ b → IfRead (Turns h z ls (k + 1)) (inTurn h z ls (k + 1))
@@ -116,12 +126,14 @@ unfolding tabulate
 turns h z [] k = record { hour = refl; zone = refl; are = record { each = refl; hours = refl; zones = refl; places = refl; few = omega arith } }
 turns h z (l ∷ ls) k = go (rowOf l) refl (turns h z ls (k + 1))
   where
-    go : (w : Line) → rowOf l ≡ w → IfRead (Turns h z ls (k + 1)) (inTurn h z ls (k + 1)) → IfRead (Turns h z (l ∷ ls) k) (turn w h z k (inTurn h z ls))
+    go : (w : Line) → rowOf l ≡ w → IfRead (Turns h z ls (k + 1)) (inTurn h z ls (k + 1))
+        → IfRead (Turns h z (l ∷ ls) k) (turn w h z k (inTurn h z ls))
     go (Faulty c) e t = tt
     go (Good r) e t = if-follows h z l ls k r e (follows h z k r) refl t
 
 -- one line that stands in its turn
-pub turn-first : (h z : ℕ) (l : List ℕ) (ls : List (List ℕ)) (k : ℕ) (r : Row) → rowOf l ≡ Good r → Follows h z k r → inTurn h z (l ∷ ls) k ≡ withRow r (inTurn h z ls (k + 1))
+pub turn-first : (h z : ℕ) (l : List ℕ) (ls : List (List ℕ)) (k : ℕ) (r : Row) → rowOf l ≡ Good r → Follows h z k r
+    → inTurn h z (l ∷ ls) k ≡ withRow r (inTurn h z ls (k + 1))
 turn-first h z l ls k r e w = rw (e, means-follows h z k r w)
 
 -- the converse of `turns`
@@ -134,7 +146,8 @@ in-turn h z (l ∷ ls) (r ∷ rows) k t =
     turn-first h z l ls k r (f .is) (f .follows) ∙ rw (in-turn h z ls rows (k + 1) (f .rest))
 
 -- ---- the lines after the header: the first gives the hour and the zone
-pub body-turns : (h z : ℕ) (l : List ℕ) (ls : List (List ℕ)) (r : Row) → rowOf l ≡ Good r → r .hour ≡ h → r .zone ≡ z → bodyOf (l ∷ ls) ≡ inTurn h z (l ∷ ls) 0
+pub body-turns : (h z : ℕ) (l : List ℕ) (ls : List (List ℕ)) (r : Row) → rowOf l ≡ Good r → r .hour ≡ h → r .zone ≡ z
+    → bodyOf (l ∷ ls) ≡ inTurn h z (l ∷ ls) 0
 body-turns h z l ls r e p q = ap (λ (w : Line). underFirst w (l ∷ ls)) e ∙ under (r .hour) (r .zone) p q
   where
     under : (x y : ℕ) → x ≡ h → y ≡ z → inTurn x y (l ∷ ls) 0 ≡ inTurn h z (l ∷ ls) 0
@@ -180,7 +193,11 @@ obeyed s = go (begins s header) refl
   where
     whole : (f : File) → begins s header ≡ true → IfRead (Body (linesOf s)) f → IfRead (Obeys s) f
     whole (refused c) e b = tt
-    whole (read h z rows) e b = record { opens = begins-take s header e; some = omega (arith, b .some); standing = turned-standing (linesOf s) h z rows (b .are) }
+    whole (read h z rows) e b = record {
+      opens = begins-take s header e;
+      some = omega (arith, b .some);
+      standing = turned-standing (linesOf s) h z rows (b .are);
+    }
 
     go : (b : Bool) → begins s header ≡ b → IfRead (Obeys s) (cond b (bodyOf (linesOf s)) (refused 13))
     go true e = whole (bodyOf (linesOf s)) e (body (linesOf s))

@@ -11,17 +11,18 @@ use lib.IntN.{ℤ, natAbs}
 use lib.ListN.{length}
 use borrow.Author.Tests.{leb-true}
 use Rattle.integers.proofs.Tests.{and-true}
-use Rattle.allocation_file.specs.Bytes.{minusSign, digit0, digit9, letterH, letterL}
-use Rattle.allocation_file.specs.Numbers.{isDigit, digitsFrom, digitsOf, needlessZero, unsignedOf, positive, negative, amountOf, zoneOf}
-use Rattle.allocation_file.specs.Rows.{isForm, asRow, fieldAt, fieldsOf, rowOf}
+use Rattle.text.specs.Bytes.{minusSign, digit0, digit9}
+use Rattle.text.specs.Numbers.{isDigit, digitsFrom, digitsOf, needlessZero, unsignedOf, positive, negative, amountOf}
+use Rattle.text.specs.declared.number.Unsigned.{Unsigned}
+use Rattle.text.specs.declared.number.Unsigned.the-variants.{Number, NoNumber}
+use Rattle.text.specs.declared.number.Amount.{Amount}
+use Rattle.text.specs.declared.number.Amount.the-variants.{Kwh, NoAmount}
+use Rattle.csv.specs.Lines.{fieldAt}
+use Rattle.allocation_row.specs.Rows.{letterH, letterL, zoneOf, isForm, asRow, fieldsOf, rowOf}
+use Rattle.allocation_row.specs.declared.Row.{Row}
+use Rattle.allocation_row.specs.declared.Line.{Line}
+use Rattle.allocation_row.specs.declared.Line.the-variants.{Good, Faulty}
 use Rattle.file_guarantees.specs.Guarantees.{NineDigits}
-use Rattle.allocation_file.specs.declared.number.Unsigned.{Unsigned}
-use Rattle.allocation_file.specs.declared.number.Unsigned.the-variants.{Number, NoNumber}
-use Rattle.allocation_file.specs.declared.number.Amount.{Amount}
-use Rattle.allocation_file.specs.declared.number.Amount.the-variants.{Kwh, NoAmount}
-use Rattle.allocation_file.specs.declared.row.Row.{Row}
-use Rattle.allocation_file.specs.declared.row.Line.{Line}
-use Rattle.allocation_file.specs.declared.row.Line.the-variants.{Good, Faulty}
 
 -- ---- how large a number is
 
@@ -41,7 +42,9 @@ digits-below [] v i h = rw add-zero h
 digits-below (x ∷ xs) v i h = go (isDigit x) refl (digits-below xs (v * 10 + (x - digit0)) (i + 1))
   where
     step : isDigit x ≡ true → v * 10 + (x - digit0) < 10 ^ (i + 1)
-    step e = let d = leb-true x digit9 (and-true (leb digit0 x) (leb x digit9) e .1) in rw (add-one, pow-succ' 10 i) (omega arith)
+    step e =
+        let d = leb-true x digit9 (and-true (leb digit0 x) (leb x digit9) e .1) in
+        rw (add-one, pow-succ' 10 i) (omega arith)
 
     go : (b : Bool) → isDigit x ≡ b
         → (v * 10 + (x - digit0) < 10 ^ (i + 1) → IfNumber (λ n. n < 10 ^ (i + 1 + length xs)) (digitsFrom (v * 10 + (x - digit0)) xs))
@@ -58,7 +61,9 @@ unsigned-below f = needless (needlessZero f)
     wider NoNumber l h = tt
 
     counted : (b : Bool) → (leb 1 (length f) && leb (length f) 9) ≡ b → IfNumber (λ n. n < 10 ^ 9) (cond b (digitsFrom 0 f) NoNumber)
-    counted true e = wider (digitsFrom 0 f) (leb-true (length f) 9 (and-true (leb 1 (length f)) (leb (length f) 9) e .1)) (digits-below f 0 0 (lit< tt))
+    counted true e =
+        let few = leb-true (length f) 9 (and-true (leb 1 (length f)) (leb (length f) 9) e .1) in
+        wider (digitsFrom 0 f) few (digits-below f 0 0 (lit< tt))
     counted false e = tt
 
     needless : (b : Bool) → IfNumber (λ n. n < 10 ^ 9) (cond b NoNumber (digitsOf f))
@@ -141,7 +146,8 @@ either l = go (isForm l)
     go : (b : Bool) → Either (λ c. (14 ≤ c) × (c ≤ 15)) (MadeOf l) (cond b (fieldsOf l) (Faulty 14))
     go true =
         fields-made (fieldsOf l)
-        (made (unsignedOf (fieldAt 0 l)) (zoneOf (fieldAt 1 l)) (unsignedOf (fieldAt 2 l)) (amountOf (fieldAt 3 l)) (amountOf (fieldAt 4 l)) (amountOf (fieldAt 5 l)) (amountOf (fieldAt 6 l)))
+        (made (unsignedOf (fieldAt 0 l)) (zoneOf (fieldAt 1 l)) (unsignedOf (fieldAt 2 l))
+        (amountOf (fieldAt 3 l)) (amountOf (fieldAt 4 l)) (amountOf (fieldAt 5 l)) (amountOf (fieldAt 6 l)))
     go false = (omega arith, omega arith)
 
 -- and a row's numbers are small

@@ -1,16 +1,16 @@
 -- Small files and what the definitions say of them: one list, which proofs/Examples.antt computes. Assumes nothing.
-use Prim.Native.Nat.{ℕ, zero, suc, _+_, _/_, _%_}
+use Prim.Native.Nat.{ℕ, zero, suc, _+_}
 use Prim.Native.String.{String}
 use mathlib.Core.Path.{_≡_}
-use mathlib.Core.Bool.{cond}
 use mathlib.Core.List.{List, [], _∷_, _++_, map}
-use lib.Dec.{ltb}
 use lib.IntN.{ℤ, pos, negsuc}
 use lib.ListN.{replicate}
 use Rattle.integers.specs.Lists.{tabulate}
-use Rattle.allocation_file.specs.Bytes.{bytes, digit0}
-use Rattle.allocation_file.specs.File.{File, refused, read, header, outcome, answerOf, listOf}
-use Rattle.allocation_file.specs.declared.row.Row.{Row}
+use Rattle.text.specs.Bytes.{bytes}
+use Rattle.text.specs.Decimals.{digits}
+use Rattle.allocation_row.specs.declared.Row.{Row}
+use Rattle.allocation_lines.specs.Turns.{File, refused, read}
+use Rattle.allocation_file.specs.File.{header, outcome, answerOf, listOf}
 use Rattle.allocation_file.specs.declared.FileAnswer.the-variants.{Read}
 
 -- a file, the number of places of each list that is lent with it, and the outcome
@@ -37,14 +37,9 @@ abbrev pub row : ℕ → ℕ → ℕ → ℤ → ℤ → ℤ → ℤ → Row
 row h z g a b c d = record { hour = h; zone = z; place = g; entry = a; exit = b; title = c; pooling = d }
 
 -- ---- files of many lines: n lines from place k on, each of hour 24, zone L and no amounts
-abbrev pub decimal : ℕ → List ℕ
-decimal n =
-    let low = (digit0 + n % 10) ∷ [] in
-    cond (ltb n 10) low (cond (ltb n 100) ((digit0 + n / 10) ∷ low) ((digit0 + n / 100) ∷ (digit0 + n / 10 % 10) ∷ low))
-
 unfoldable pub linesFrom : ℕ → ℕ → List ℕ
 linesFrom k zero = []
-linesFrom k (suc n) = bytes "24,L," ++ decimal k ++ bytes ",0,0,0,0\r\n" ++ linesFrom (k + 1) n
+linesFrom k (suc n) = bytes "24,L," ++ digits k ++ bytes ",0,0,0,0\r\n" ++ linesFrom (k + 1) n
 
 -- 128 such lines and a text after them
 abbrev pub full : String → File → Example
@@ -67,7 +62,8 @@ examples =
     (row 1 0 0 (pos 30000000) (negsuc 9999999) (pos 0) (pos 0)
     ∷ row 1 0 1 (pos 15000000) (negsuc 4999999) (pos 0) (pos 0)
     ∷ row 1 0 2 (pos 2000000) (negsuc 4999999) (pos 0) (pos 0) ∷ []))
-    ∷ after "24,L,0,1,-1,20,-20\r\n24,L,1,0,0,0,0" (read 24 1 (row 24 1 0 (pos 1) (negsuc 0) (pos 20) (negsuc 19) ∷ row 24 1 1 (pos 0) (pos 0) (pos 0) (pos 0) ∷ []))
+    ∷ after "24,L,0,1,-1,20,-20\r\n24,L,1,0,0,0,0"
+    (read 24 1 (row 24 1 0 (pos 1) (negsuc 0) (pos 20) (negsuc 19) ∷ row 24 1 1 (pos 0) (pos 0) (pos 0) (pos 0) ∷ []))
     ∷ after "999999999,H,0,999999999,-999999999,0,0" (read 999999999 0 (row 999999999 0 0 (pos 999999999) (negsuc 999999998) (pos 0) (pos 0) ∷ []))
     ∷ after "0,H,0,-1,1,0,0\r\n" (read 0 0 (row 0 0 0 (negsuc 0) (pos 1) (pos 0) (pos 0) ∷ []))
     ∷ full "" (read 24 1 fullRows)

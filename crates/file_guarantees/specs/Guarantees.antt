@@ -1,4 +1,5 @@
--- What holds of every file, over the definitions of `allocation_file`. Statements only; the proofs are in proofs/Guarantees.antt, and the crate `certificate` asks for each. Assumes nothing.
+-- What holds of every file, over the definitions of `allocation_file` and of the crates under it. Statements only; the proofs are in
+-- proofs/Guarantees.antt, and the crate `certificate` asks for each. Assumes nothing.
 use Prim.Native.Nat.{ℕ, _^_, _≤_, _<_}
 use mathlib.Core.Path.{_≡_}
 use mathlib.Core.Bool.{true, false}
@@ -7,10 +8,11 @@ use mathlib.Core.Logic.{_↔_}
 use lib.IntN.{ℤ, pos, natAbs}
 use lib.ListN.{length, take, replicate}
 use Rattle.integers.specs.Lists.{tabulate}
-use Rattle.allocation_file.specs.Rows.{rowOf}
-use Rattle.allocation_file.specs.File.{header, linesOf, refused, read, follows, fileOf, all128, outcome, answerOf}
-use Rattle.allocation_file.specs.declared.row.Row.{Row}
-use Rattle.allocation_file.specs.declared.row.Line.the-variants.{Good, Faulty}
+use Rattle.allocation_row.specs.Rows.{rowOf, follows}
+use Rattle.allocation_row.specs.declared.Row.{Row}
+use Rattle.allocation_row.specs.declared.Line.the-variants.{Good, Faulty}
+use Rattle.allocation_lines.specs.Turns.{refused, read}
+use Rattle.allocation_file.specs.File.{header, linesOf, fileOf, all128, outcome, answerOf}
 use Rattle.allocation_file.specs.declared.FileRead.{FileRead}
 use Rattle.allocation_file.specs.declared.FileAnswer.the-variants.{Read}
 
@@ -39,13 +41,14 @@ ReadIfObeyed =
     (s : List ℕ) (a b c d : List ℤ) → all128 (length a) (length b) (length c) (length d) ≡ true
     → (h z : ℕ) (rows : List Row) → (outcome s a b c d ≡ read h z rows) ↔ Obeys s h z rows
 
--- a line l that is refused at place k of a file of the hour h and the zone z, with its cause n: by itself (14 or 15), or in its turn (16). The file's first line
--- gives the hour and the zone
+-- a line l that is refused at place k of a file of the hour h and the zone z, with its cause n: by itself (14 or 15), or in its turn (16).
+-- The file's first line gives the hour and the zone
 pub data Fault (h z k : ℕ) (l : List ℕ) : ℕ → Type 0 where
   byItself : {n : ℕ} → rowOf l ≡ Faulty n → Fault h z k l n
   inItsTurn : (r : Row) → rowOf l ≡ Good r → follows h z k r ≡ false → (k ≡ 0 → (r .hour ≡ h) × (r .zone ≡ z)) → Fault h z k l 16
 
--- "the lines are taken in turn; within one line 14, then 15, then 16": the first line that is refused gives the file's cause, whatever stands after it
+-- "the lines are taken in turn; within one line 14, then 15, then 16": the first line that is refused gives the file's cause, whatever
+-- stands after it
 abbrev pub FirstFaultDecides : Type 0
 FirstFaultDecides =
     (s : List ℕ) (h z n : ℕ) (before : List (List ℕ)) (l : List ℕ) (after : List (List ℕ)) (rows : List Row)
@@ -55,8 +58,8 @@ FirstFaultDecides =
     → Fault h z (length rows) l n
     → fileOf s ≡ refused n
 
--- what an accepted call says of its file: it obeys the rules, the hour and the zone answered are those of every line, and the number of lines answered is that
--- of the file's lines, 1 to 128
+-- what an accepted call says of its file: it obeys the rules, the hour and the zone answered are those of every line, and the number of
+-- lines answered is that of the file's lines, 1 to 128
 pub record Accepted (s : List ℕ) (f : FileRead) : Type 0 where
   pub h : ℕ
   pub z : ℕ

@@ -10,8 +10,9 @@ use Rattle.integers.specs.Ranges.{natural}
 use Rattle.rules.specs.Limits.{usersMost}
 use Rattle.allocation_file.specs.declared.FileRead.{FileRead}
 use Rattle.allocation_file.specs.declared.FileAnswer.the-variants.{Refused, Read}
-use Rattle.allocation_file.specs.declared.row.Row.{Row}
-use Rattle.allocation_file.specs.File.{File, refused, read, outcome, answerOf, listOf}
+use Rattle.allocation_row.specs.declared.Row.{Row}
+use Rattle.allocation_lines.specs.Turns.{File, refused, read}
+use Rattle.allocation_file.specs.File.{outcome, answerOf, listOf}
 use Rattle.file_guarantees.proofs.Guarantees.{accepted-obeys}
 use Rattle.report.specs.Text.{refusedLine}
 use Rattle.firsthour.specs.Printed.{opened, openedNew, ofFile}

@@ -25,7 +25,7 @@ use Rattle.rules.proofs.Small.{positions-small}
 use Rattle.rules.proofs.Conserving.{length-before, positions-left}
 use Rattle.rules.proofs.Settling.{length-quantities, after-at}
 use Rattle.report.specs.Text.{refusedLine, hourText}
-use Rattle.report.specs.Puts.{Put}
+use Rattle.text.specs.Puts.{Put}
 use Rattle.firsthour.specs.Lent.{sums, Adds, afters, settledText, Settled, TextRoom}
 use Rattle.firsthour.specs.Printed.{unlessRefused, settled}
 use Rattle.firsthour.proofs.Adding.{length-sums, sums-at}

@@ -1,7 +1,7 @@
 -- Document 01's case A from its input to its output, and inputs that are refused, which proofs/Examples.antt computes. Assumes nothing.
 use mathlib.Core.Path.{_≡_}
 use Prim.Native.String.{String}
-use Rattle.allocation_file.specs.Bytes.{bytes}
+use Rattle.text.specs.Bytes.{bytes}
 use Rattle.file_guarantees.specs.Examples.{caseAText}
 use Rattle.report.specs.Examples.{caseAOutput}
 use Rattle.firsthour.specs.Printed.{printed}

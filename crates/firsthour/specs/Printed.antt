@@ -14,7 +14,8 @@ use Rattle.rules.specs.Hours.{Hour, hourGiven, before}
 use Rattle.rules.specs.Thresholds.{upperDefault, lowerDefault}
 use Rattle.rules.specs.Causes.{openCause, thresholdsCause, hourCause}
 use Rattle.rules.specs.Answers.{openTable, hourTable, hourQuantity, hourMoney}
-use Rattle.allocation_file.specs.File.{File, refused, read, fileOf}
+use Rattle.allocation_lines.specs.Turns.{File, refused, read}
+use Rattle.allocation_file.specs.File.{fileOf}
 use Rattle.report.specs.Text.{refusedLine, hourText}
 
 -- "A refusal by any call prints the one line": the text if a call has no cause, else the line of its cause

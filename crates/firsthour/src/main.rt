@@ -8,7 +8,7 @@ ghost use Rattle.rules.specs.Hours.{hourGiven};
 ghost use Rattle.rules.specs.Answers.{hourNumber};
 ghost use Rattle.allocation_file.specs.File.{fileOf};
 ghost use Rattle.io.specs.Counts.{Counts};
-ghost use Rattle.report.specs.Puts.{Put};
+ghost use Rattle.text.specs.Puts.{Put};
 ghost use Rattle.firsthour.specs.Lent.{sums, Adds, Settled, settledText, TextRoom, ReadLists};
 ghost use Rattle.firsthour.specs.Examples.{ExamplesPrinted};
 ghost use Rattle.firsthour.specs.Printed.{settled, termsOf, withDefaults, opened, openedNew, ofFile, printed};

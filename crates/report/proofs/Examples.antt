@@ -1,12 +1,8 @@
 -- The examples, computed by the definitions. Assumes nothing.
 use mathlib.Core.Path.{refl}
-use Rattle.report.specs.Decimals.{digitsIn, digits, decimal}
+use Rattle.text.specs.Decimals.{digitsIn, digits, decimal}
 use Rattle.report.specs.Text.{lineEnd, heading, field, userLine, refusedLine, lineAt, userLines, hourText}
-use Rattle.report.specs.Examples.{examples, DecimalsShown, CaseAShown, RefusalShown}
-
-pub decimals-shown : DecimalsShown
-unfolding digitsIn digits decimal examples
-decimals-shown = refl
+use Rattle.report.specs.Examples.{CaseAShown, RefusalShown}
 
 pub case-a-shown : CaseAShown
 unfolding digitsIn digits decimal lineEnd heading field userLine lineAt userLines hourText

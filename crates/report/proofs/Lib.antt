@@ -1,4 +1,3 @@
--- Laws of decimals, and of text that is written in parts.
-pub mod Decimals
-pub mod Puts
+-- A user's line at a place of the lists; and the examples, computed.
+pub mod Lines
 pub mod Examples

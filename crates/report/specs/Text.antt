@@ -3,8 +3,8 @@ use Prim.Native.Nat.{ℕ, zero, suc}
 use mathlib.Core.List.{List, [], _∷_, _++_}
 use lib.IntN.{ℤ, pos}
 use lib.ListN.{length, getD}
-use Rattle.allocation_file.specs.Bytes.{bytes, comma}
-use Rattle.report.specs.Decimals.{decimal}
+use Rattle.text.specs.Bytes.{bytes, comma}
+use Rattle.text.specs.Decimals.{decimal}
 
 -- "Lines end in CR LF"
 unfoldable pub lineEnd : List ℕ

@@ -1,10 +1,13 @@
 // The text that the program prints, written into bytes that are lent. Each function answers where its text ends.
-ghost use mathlib.Core.List.{[], _∷_};
-ghost use Prim.Native.Nat.{_+_, _≤_, _<_};
+ghost use Prim.Native.Nat.{_+_, _≤_};
 ghost use lib.ListN.{length};
-ghost use Rattle.report.specs.Decimals.{digits, decimal};
+ghost use Rattle.text.specs.Puts.{Put};
 ghost use Rattle.report.specs.Text.{field, userLine, refusedLine, hourText};
-ghost use Rattle.report.specs.Puts.{Put, HourRoom};
+ghost use Rattle.report.specs.Room.{HourRoom};
+use text::writing::write_byte;
+use text::writing::write_bytes;
+use text::writing::write_decimal;
+use text::writing::write_digits;
 
 // The first line, before the users' lines.
 const HEADING: [u8; 24] = *b"g,before,q,money,after\r\n";
@@ -12,50 +15,6 @@ const HEADING: [u8; 24] = *b"g,before,q,money,after\r\n";
 const REFUSED: [u8; 8] = *b"refused,";
 
 const LINE_END: [u8; 2] = *b"\r\n";
-
-fn write_byte(out: &mut [u8], at: usize, byte: u8) -> usize
-    requires { ⌜ at < length (now out) ⌝ }
-    ensures { λ r. ⌜ Put (now (out .entry)) at (byte ∷ []) (now (out .exit)) r ⌝ }
-{
-    out[at] = byte;
-    at + 1
-}
-
-fn write_bytes(out: &mut [u8], at: usize, text: &[u8]) -> usize
-    requires { ⌜ at + length (now text) ≤ length (now out) ⌝ }
-    ensures { λ r. ⌜ Put (now (out .entry)) at (now (text .entry)) (now (out .exit)) r ⌝ }
-{
-    let mut i: usize = 0;
-    while i < text.len() {
-        out[at + i] = text[i];
-        i += 1;
-    }
-    at + i
-}
-
-// The digits of a number: those of its tenth, if it has more than one, then its last. The calls are at most 20 deep.
-fn write_digits(out: &mut [u8], at: usize, n: u64) -> usize
-    requires { ⌜ at + length (digits n) ≤ length (now out) ⌝ }
-    ensures { λ r. ⌜ Put (now (out .entry)) at (digits n) (now (out .exit)) r ⌝ }
-{
-    if n < 10 {
-        return write_byte(out, at, b'0' + n as u8);
-    }
-    let last = write_digits(out, at, n / 10);
-    write_byte(out, last, b'0' + (n % 10) as u8)
-}
-
-// Every number of 64 bits has at most 20 bytes.
-pub fn write_decimal(out: &mut [u8], at: usize, value: i64) -> usize
-    requires { ⌜ at + 20 ≤ length (now out) ⌝ }
-    ensures { λ r. ⌜ Put (now (out .entry)) at (decimal value) (now (out .exit)) r × (r ≤ at + 20) ⌝ }
-{
-    if value < 0 {
-        let first = write_byte(out, at, b'-');
-        return write_digits(out, first, integers::magnitude(value));
-    }
-    write_digits(out, at, integers::magnitude(value))
-}
 
 fn write_field(out: &mut [u8], at: usize, value: i64) -> usize
     requires { ⌜ at + 21 ≤ length (now out) ⌝ }
@@ -76,7 +35,9 @@ pub fn write_user_line(
     after: i64,
 ) -> usize
     requires { ⌜ at + 106 ≤ length (now out) ⌝ }
-    ensures { λ r. ⌜ Put (now (out .entry)) at (userLine place before quantity money after) (now (out .exit)) r × (r ≤ at + 106) ⌝ }
+    ensures { λ r. ⌜
+        Put (now (out .entry)) at (userLine place before quantity money after) (now (out .exit)) r
+        × (r ≤ at + 106) ⌝ }
 {
     let end = write_field(out, at, place);
     let end = write_field(out, end, before);
@@ -105,7 +66,10 @@ pub fn write_hour(
     after: &[i64],
 ) -> usize
     requires { ⌜ HourRoom (now out) (now before) (now quantity) (now money) (now after) ⌝ }
-    ensures { λ r. ⌜ Put (now (out .entry)) 0 (hourText (now (before .entry)) (now (quantity .entry)) (now (money .entry)) (now (after .entry))) (now (out .exit)) r ⌝ }
+    ensures { λ r. ⌜
+        Put (now (out .entry)) 0
+        (hourText (now (before .entry)) (now (quantity .entry)) (now (money .entry)) (now (after .entry)))
+        (now (out .exit)) r ⌝ }
 {
     let mut at = write_bytes(out, 0, &HEADING);
     let mut i: usize = 0;

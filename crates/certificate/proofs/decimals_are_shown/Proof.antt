@@ -1,5 +1,5 @@
 -- Assumes nothing.
-use Rattle.report.proofs.Examples.{decimals-shown}
+use Rattle.text.proofs.Examples.{decimals-shown}
 use Rattle.certificate.proofs.decimals_are_shown.Statement.{statement}
 use Rattle.certificate.proofs.decimals_are_shown.Tie as tie
 

@@ -2,7 +2,7 @@
 use mathlib.Core.Path.{sym}
 use native.Mathlib.Omega.{arith}
 use lib.Seq.{length-take-le}
-use Rattle.report.proofs.Puts.{put-length}
+use Rattle.text.proofs.Puts.{put-length}
 use borrow.Author.Needs.{needs}
 use Rattle.firsthour.proofs.main.Statement.{statement}
 use Rattle.firsthour.proofs.main.Tie as tie

@@ -1,9 +1,9 @@
 -- The number, then its comma. Assumes nothing.
 use native.Mathlib.Omega.{arith}
 use borrow.Author.Needs.{needs}
-use Rattle.integers.proofs.Machine.{read}
 use Rattle.report.specs.Text.{field}
-use Rattle.report.proofs.Puts.{put-then}
+use Rattle.text.specs.Decimals.{decimal}
+use Rattle.text.proofs.Puts.{put-then, put-read}
 use Rattle.report.proofs.write_field.Statement.{statement}
 use Rattle.report.proofs.write_field.Tie as tie
 
@@ -19,7 +19,8 @@ same-length c = search needs
 returns : tie.Need-returns
 unfolding field
 returns c =
-    let p = rw (read (c .before .before .before .before .before .before .before .before .before .fits .value)) at (c .before .before .before .before .before .before .write-decimal .ensures) in
+    let w = c .before .before .before .before .before .before in
+    let p = put-read decimal (w .before .before .before .fits .value) (w .write-decimal .ensures) in
     let q = c .before .before .write-byte .ensures in
     (put-then (p .0) q, omega (arith, p .1, q .ends))
 

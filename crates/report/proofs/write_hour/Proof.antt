@@ -1,7 +1,6 @@
 -- Each turn writes a user's line. Assumes nothing.
 use mathlib.Core.Path.{_≡_, refl, _∙_}
 use Prim.Native.Nat.{_+_, _*_, _-_, _≤_}
-use native.Mathlib.Numerals.{add-one}
 use native.Mathlib.Omega.{arith}
 use borrow.Author.Needs.{needs}
 use lib.IntN.{pos}
@@ -9,14 +8,14 @@ use lib.ListN.{length, getD}
 use denote.Ref.{now}
 use Rattle.integers.proofs.Machine.{back}
 use Rattle.report.specs.Text.{heading, userLines, hourText}
-use Rattle.report.specs.Puts.{Put}
-use Rattle.report.proofs.Puts.{put-length, put-then, put-none, line-at}
+use Rattle.text.proofs.Puts.{put-length, put-then, put-none}
+use Rattle.report.proofs.Lines.{Written, written-next}
 use Rattle.report.proofs.write_hour.Statement.{statement}
 use Rattle.report.proofs.write_hour.Tie as tie
 
 abbrev Inv-loop : tie.InvT-loop
 Inv-loop out₀ before quantity money after at₀ i₀ out at i =
-    (i ≤ length quantity) × (at ≤ at₀ + i * 106) × (length out ≡ length out₀) × Put out₀ at₀ (userLines before quantity money after i) out at
+    (i ≤ length quantity) × (at ≤ at₀ + i * 106) × Written before quantity money after i out₀ at₀ out at
 
 abbrev μ-loop : tie.MeasureT-loop
 μ-loop out₀ before quantity money after at₀ i₀ out at i = length quantity - i
@@ -31,7 +30,7 @@ loop-holds : tie.Need-loop-holds Inv-loop μ-loop
 unfolding userLines
 loop-holds c =
     let p = c .before .before .write-bytes .ensures in
-    (search needs, search needs, refl, put-none _ _ (omega (arith, p .ends, p .room, put-length p)))
+    (search needs, search needs, record { kept = refl; lines = put-none _ _ (omega (arith, p .ends, p .room, put-length p)) })
 
 signed-requires : tie.Need-signed-requires Inv-loop μ-loop
 signed-requires c κs = omega (arith)
@@ -74,30 +73,37 @@ loop-less : tie.Need-loop-less Inv-loop μ-loop
 loop-less c = search needs
 
 loop-again : tie.Need-loop-again Inv-loop μ-loop
-unfolding userLines
 loop-again c =
-    let a = c .before .before .before .before .before .before .before .before .before .before .before .before .before .before .before .before .before .args in
-    let l = c .before .before .before .before .before .before .before .before .before .before .loop in
+    let w = c .before .before in
+    let at-after = w .before in
+    let at-money = at-after .before in
+    let at-quantity = at-money .before in
+    let at-before = at-quantity .before in
+    let place = at-before .before .signed in
+    let k = at-before .before .before .before .before in
+    let a = k .before .before .before .before .before .before .before .args in
+    let l = k .loop in
     let i = l .i in
-    let p = c .before .before .write-user-line .ensures in
+    let p = w .write-user-line .ensures in
     let q =
-    line-at (now (a .before)) (now (a .quantity)) (now (a .money)) (now (a .after)) i (p .0)
-    (back _ (c .before .before .before .before .before .before .before .signed .ok) ∙ c .before .before .before .before .before .before .before .signed .ensures)
-    (back (getD (now (a .before)) i (pos 0)) (c .before .before .before .before .before .before .write-user-line-arg2 .given))
-    (back (getD (now (a .quantity)) i (pos 0)) (c .before .before .before .before .before .write-user-line-arg3 .given))
-    (back (getD (now (a .money)) i (pos 0)) (c .before .before .before .before .write-user-line-arg4 .given))
-    (back (getD (now (a .after)) i (pos 0)) (c .before .before .before .write-user-line-arg5 .given)) in
-    (search needs, omega (arith, l .inv .1, p .1), put-length (p .0) ∙ l .inv .2, rw add-one (put-then (l .inv .3) q))
+    written-next (now (a .before)) (now (a .quantity)) (now (a .money)) (now (a .after)) i (l .inv .2) (p .0)
+    (back _ (place .ok) ∙ place .ensures)
+    (back (getD (now (a .before)) i (pos 0)) (at-before .write-user-line-arg2 .given))
+    (back (getD (now (a .quantity)) i (pos 0)) (at-quantity .write-user-line-arg3 .given))
+    (back (getD (now (a .money)) i (pos 0)) (at-money .write-user-line-arg4 .given))
+    (back (getD (now (a .after)) i (pos 0)) (at-after .write-user-line-arg5 .given)) in
+    (search needs, omega (arith, l .inv .1, p .1), q)
 
 same-length : tie.Need-same-length Inv-loop μ-loop
-same-length c = c .before .loop .inv .2 ∙ put-length (c .before .before .before .before .write-bytes .ensures)
+same-length c = c .before .loop .inv .2 .kept ∙ put-length (c .before .before .before .before .write-bytes .ensures)
 
 returns : tie.Need-returns Inv-loop μ-loop
 unfolding hourText heading
 returns c =
     let l = c .before .loop in
-    let e : length (now (c .before .before .before .before .before .before .before .before .args .quantity)) ≡ l .i = omega arith in
-    rw e (put-then (c .before .before .before .before .write-bytes .ensures) (l .inv .3))
+    let w = c .before .before .before .before in
+    let e : length (now (w .before .before .before .before .args .quantity)) ≡ l .i = omega arith in
+    rw e (put-then (w .write-bytes .ensures) (l .inv .2 .lines))
 
 pub write-hour-spec : {M : Type 1} → statement M
 write-hour-spec =

@@ -1,10 +1,10 @@
 -- Three texts, one after the other. Assumes nothing.
 use native.Mathlib.Omega.{arith}
 use borrow.Author.Needs.{needs}
-use Rattle.report.specs.Decimals.{decimal}
+use Rattle.text.specs.Decimals.{decimal}
 use Rattle.report.specs.Text.{lineEnd, refusedLine}
-use Rattle.report.proofs.Decimals.{digits-length}
-use Rattle.report.proofs.Puts.{put-length, put-then}
+use Rattle.text.proofs.Decimals.{digits-length}
+use Rattle.text.proofs.Puts.{put-length, put-then}
 use Rattle.report.proofs.write_refused.Statement.{statement}
 use Rattle.report.proofs.write_refused.Tie as tie
 
@@ -16,24 +16,33 @@ write-bytes-requires c κs = search needs
 
 write-digits-requires : tie.Need-write-digits-requires
 write-digits-requires c κs =
-    let p = c .before .before .before .write-bytes .ensures in
-    omega (arith, p .ends, put-length p, digits-length 19 (c .before .before .before .before .before .before .before .args .number) (search needs))
+    let w = c .before .before .before in
+    let p = w .write-bytes .ensures in
+    let n = w .before .before .before .before .args .number in
+    omega (arith, p .ends, put-length p, digits-length 19 n (search needs))
 
 slice-aggregate-write-bytes-2 : tie.Need-slice-aggregate-write-bytes-2
 slice-aggregate-write-bytes-2 c = search needs
 
 write-bytes-requires-2 : tie.Need-write-bytes-requires-2
 write-bytes-requires-2 c κs =
-    let p = c .before .before .before .before .before .before .before .before .write-bytes .ensures in
-    let q = c .before .before .before .before .write-digits .ensures in
-    omega (arith, p .ends, put-length p, q .ends, put-length q, digits-length 19 (c .before .before .before .before .before .before .before .before .before .before .before .before .args .number) (search needs))
+    let d = c .before .before .before .before in
+    let w = d .before .before .before .before in
+    let p = w .write-bytes .ensures in
+    let q = d .write-digits .ensures in
+    let n = w .before .before .before .before .args .number in
+    omega (arith, p .ends, put-length p, q .ends, put-length q, digits-length 19 n (search needs))
 
 same-length : tie.Need-same-length
 same-length c = search needs
 
 returns : tie.Need-returns
 unfolding refusedLine decimal lineEnd
-returns c = put-then (put-then (c .before .before .before .before .before .before .before .before .before .before .before .write-bytes .ensures) (c .before .before .before .before .before .before .before .write-digits .ensures)) (c .before .before .write-bytes2 .ensures)
+returns c =
+    let e = c .before .before in
+    let d = e .before .before .before .before .before in
+    let w = d .before .before .before .before in
+    put-then (put-then (w .write-bytes .ensures) (d .write-digits .ensures)) (e .write-bytes2 .ensures)
 
 pub write-refused-spec : {M : Type 1} → statement M
 write-refused-spec =

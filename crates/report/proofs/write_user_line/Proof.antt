@@ -1,9 +1,9 @@
 -- Six texts, one after the other, each at most as long as it may be. Assumes nothing.
 use native.Mathlib.Omega.{arith}
 use borrow.Author.Needs.{needs}
-use Rattle.integers.proofs.Machine.{read}
-use Rattle.report.specs.Text.{lineEnd, userLine}
-use Rattle.report.proofs.Puts.{put-then}
+use Rattle.report.specs.Text.{field, lineEnd, userLine}
+use Rattle.text.specs.Decimals.{decimal}
+use Rattle.text.proofs.Puts.{put-then, put-read}
 use Rattle.report.proofs.write_user_line.Statement.{statement}
 use Rattle.report.proofs.write_user_line.Tie as tie
 
@@ -41,13 +41,15 @@ returns c =
     let at-before = at-quantity .before .before .before .before in
     let at-place = at-before .before .before .before .before in
     let f = at-place .before .before .before .fits in
-    let p₁ = simp (read (f .place), read (f .before), read (f .quantity), read (f .money), read (f .after)) at (at-place .write-field .ensures) in
-    let p₂ = simp (read (f .place), read (f .before), read (f .quantity), read (f .money), read (f .after)) at (at-before .write-field2 .ensures) in
-    let p₃ = simp (read (f .place), read (f .before), read (f .quantity), read (f .money), read (f .after)) at (at-quantity .write-field3 .ensures) in
-    let p₄ = simp (read (f .place), read (f .before), read (f .quantity), read (f .money), read (f .after)) at (at-money .write-field4 .ensures) in
-    let p₅ = simp (read (f .place), read (f .before), read (f .quantity), read (f .money), read (f .after)) at (at-after .write-decimal .ensures) in
-    let p₆ = at-end .write-bytes .ensures in
-    (put-then (put-then (put-then (put-then (put-then (p₁ .0) (p₂ .0)) (p₃ .0)) (p₄ .0)) (p₅ .0)) p₆, omega (arith, p₁ .1, p₂ .1, p₃ .1, p₄ .1, p₅ .1, p₆ .ends))
+    let p₁ = put-read field (f .place) (at-place .write-field .ensures) in
+    let p₂ = put-read field (f .before) (at-before .write-field2 .ensures) in
+    let p₃ = put-read field (f .quantity) (at-quantity .write-field3 .ensures) in
+    let p₄ = put-read field (f .money) (at-money .write-field4 .ensures) in
+    let p₅ = put-read decimal (f .after) (at-after .write-decimal .ensures) in
+    let p₆ = at-end .write-bytes .ensures in (
+      put-then (put-then (put-then (put-then (put-then (p₁ .0) (p₂ .0)) (p₃ .0)) (p₄ .0)) (p₅ .0)) p₆,
+      omega (arith, p₁ .1, p₂ .1, p₃ .1, p₄ .1, p₅ .1, p₆ .ends),
+    )
 
 pub write-user-line-spec : {M : Type 1} → statement M
 write-user-line-spec =

@@ -1,0 +1,5 @@
+-- Laws of reading a number, of its decimal text, and of text that is written in parts; and the examples, computed.
+pub mod Numbers
+pub mod Decimals
+pub mod Puts
+pub mod Examples
