@@ -7,7 +7,11 @@ use Rattle.cases.specs.Cases.{opened, termsOf, moved, said, quantity, mo
 use Rattle.cases.specs.Examples.{exampleHour, exampleClosing, hoursFrom, wholeDay, start, WholeDay, TwelveUsers, Defaults}
 
 pub all-figures : AllFigures
-unfolding rules asRow fileOf opened termsOf moved said quantity money left hourFigures nines fileA saidBy saidA caseA figuresA caseB figuresB figuresC figuresD figuresE figuresF figuresG caseI figuresI figuresJ tableH caseH figuresH figuresK figures
+unfolding
+    rules asRow fileOf opened termsOf moved said quantity money left
+    hourFigures nines fileA saidBy saidA caseA figuresA caseB figuresB figuresC
+    figuresD figuresE figuresF figuresG caseI figuresI figuresJ tableH caseH figuresH
+    figuresK figures
 all-figures = refl
 
 pub whole-day : WholeDay

@@ -21,5 +21,6 @@ module _ (xs ys : List ℤ) where
   sums-at k h = getD-tabulate _ (length xs) k (pos 0) h
 
   -- a sum of what is read
-  pub sum-fits : {out : List ℤ} → Adds xs ys out → (k : ℕ) → k < length xs → {x y : ℤ} → x ≡ getD xs k (pos 0) → y ≡ getD ys k (pos 0) → SFits w64 (x +ℤ y)
+  pub sum-fits : {out : List ℤ} → Adds xs ys out → (k : ℕ) → k < length xs → {x y : ℤ} → x ≡ getD xs k (pos 0)
+      → y ≡ getD ys k (pos 0) → SFits w64 (x +ℤ y)
   sum-fits a k h p q = rw (p, q) (fits _ (omega (arith, rw (sums-at k h) at (a .small .at k))))

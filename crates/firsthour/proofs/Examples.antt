@@ -9,5 +9,8 @@ use Rattle.firsthour.specs.Printed.{unlessRefused, settled, termsOf, jan
 use Rattle.firsthour.specs.Examples.{ExamplesPrinted}
 
 pub examples-printed : ExamplesPrinted
-unfolding asRow fileOf rules digitsIn digits decimal lineEnd heading field userLine refusedLine lineAt userLines hourText unlessRefused settled termsOf januaryTerms withDefaults opened openedNew ofFile printed
+unfolding
+    asRow fileOf rules digitsIn digits decimal lineEnd heading field userLine
+    refusedLine lineAt userLines hourText unlessRefused settled termsOf januaryTerms withDefaults opened
+    openedNew ofFile printed
 examples-printed = record { case-a = refl; empty = refl; header-only = refl; hour-2 = refl; zone-l = refl }

@@ -55,7 +55,8 @@ module _ (month zone : ℤ) where
   unfolding thresholdsNumber thresholdsAnswer
   thresholds-number = by-number thresholdsNumber _ (λ k. ThresholdsRefused k) refl (λ k. refl) (thresholdsCause month zone)
 
-  pub thresholds-refused : {k : ℕ} (text : List ℕ) → ThresholdsRefused k ≡ thresholdsAnswer month zone → unlessRefused (thresholdsCause month zone) text ≡ refusedLine k
+  pub thresholds-refused : {k : ℕ} (text : List ℕ) → ThresholdsRefused k ≡ thresholdsAnswer month zone
+      → unlessRefused (thresholdsCause month zone) text ≡ refusedLine k
   unfolding thresholdsNumber thresholdsAnswer
   thresholds-refused {k} text e = go (eq-zero-or-pos (thresholdsCause month zone))
     where
@@ -70,7 +71,8 @@ module _ (month zone : ℤ) where
   unfolding thresholdsNumber
   thresholds-none e = sym (ap thresholdsNumber e ∙ thresholds-number)
 
-  pub thresholds-are : {d : Thresholds} → Defaults d ≡ thresholdsAnswer month zone → d ≡ record { upper = upperDefault month zone; lower = lowerDefault month zone }
+  pub thresholds-are : {d : Thresholds} → Defaults d ≡ thresholdsAnswer month zone
+      → d ≡ record { upper = upperDefault month zone; lower = lowerDefault month zone }
   unfolding thresholdsAnswer
   thresholds-are {d} e =
       let q : Defaults d ≡ Defaults (record { upper = upperDefault month zone; lower = lowerDefault month zone }) = e ∙ by-none _ _ _ (thresholds-none e) in

@@ -51,7 +51,18 @@ file-read (refused k) a b c d e l ea eb ec ed = let q : _≡_ {A = ℕ} 0 1 = cc
 file-read (read h z rows) a b c d {f} {n} e l ea eb ec ed =
     let q : _≡_ {A = FileRead} f (record { hour = pos h; zone = pos z; lines = pos (length rows) }) = cc in
     let m : n ≡ length rows = l ∙ ap (λ (g : FileRead). natural (g .lines)) q in
-    rw (q, m, ea, eb, ec, ed, rows-taken (λ r. r .entry) rows a, rows-taken (λ r. r .exit) rows b, rows-taken (λ r. r .title) rows c, rows-taken (λ r. r .pooling) rows d)
+    rw (
+      q,
+      m,
+      ea,
+      eb,
+      ec,
+      ed,
+      rows-taken (λ r. r .entry) rows a,
+      rows-taken (λ r. r .exit) rows b,
+      rows-taken (λ r. r .title) rows c,
+      rows-taken (λ r. r .pooling) rows d,
+    )
 
 pub file-few : (s : List ℕ) (a b c d : List ℤ) {f : FileRead} {n : ℕ} → Read f ≡ answerOf (outcome s a b c d) → n ≡ natural (f .lines) → n ≤ usersMost
 unfolding natural

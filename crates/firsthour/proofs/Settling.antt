@@ -39,7 +39,8 @@ first-few zone = go (isZero zone) refl
     go true e = rw e (lit≤ tt)
     go false e = rw e (lit≤ tt)
 
-pub after-is : (zone : ℤ) (table : List ℤ) (start n : ℕ) → start ≡ firstPlace zone → n ≤ usersMost → take (start + n - start) (drop start table) ≡ afters zone n table
+pub after-is : (zone : ℤ) (table : List ℤ) (start n : ℕ) → start ≡ firstPlace zone → n ≤ usersMost
+    → take (start + n - start) (drop start table) ≡ afters zone n table
 unfolding afters part
 after-is zone table start n e h =
     let k : start + n - start ≡ n = omega arith in
@@ -101,7 +102,8 @@ module _ (d : Day) (t : List ℤ) (g : Hour) where
       unfolding settled unlessRefused settledText
       done-text = by-none _ _ _ k ∙ rw (sums-left, left, ← eq, ← em) (ap (hourText (before d t g) q′ m′) (positions-left d t g k))
 
-      pub done-asks : {out : List ℕ} {b : List ℤ} → TextRoom out b (g .entry) → length t′ ≡ length t → length m′ ≡ length (g .money) → Settled out (g .terms .zone) t′ q′ m′ b
+      pub done-asks : {out : List ℕ} {b : List ℤ} → TextRoom out b (g .entry) → length t′ ≡ length t
+          → length m′ ≡ length (g .money) → Settled out (g .terms .zone) t′ q′ m′ b
       unfolding beforeFit
       done-asks r lt lm =
           let s = hour-sound d t g k in

@@ -1,7 +1,7 @@
 -- What the program's functions ask of the lists that they are lent. Assumes nothing.
 use mathlib.Core.Path.{_≡_}
 use mathlib.Core.List.{List}
-use Prim.Native.Nat.{ℕ, _≤_}
+use Prim.Native.Nat.{ℕ, _+_, _*_, _≤_}
 use lib.IntN.{ℤ, pos, _+ℤ_}
 use lib.ListN.{length, getD, take}
 use Rattle.integers.specs.Lists.{tabulate, AtMost}
@@ -29,9 +29,13 @@ settledText zone table quantity money =
     let after = afters zone (length quantity) table in
     hourText (sums quantity after) quantity money after
 
--- room for the longest text, the whole table, lists of one length of at most 128 users, and sums that are positions
+-- the bytes of the longest text: the heading, and the longest line of each user
+abbrev pub textMost : ℕ
+textMost = 24 + usersMost * 106
+
+-- room for the longest text, the whole table, lists of one length of no more users than a day has, and sums that are positions
 pub record Settled (out : List ℕ) (zone : ℤ) (table quantity money before : List ℤ) : Type 0 where
-  pub room : 13_592 ≤ length out
+  pub room : textMost ≤ length out
   pub places : length table ≡ 256
   pub users : length quantity ≤ usersMost
   pub moneys : length money ≡ length quantity
@@ -40,13 +44,13 @@ pub record Settled (out : List ℕ) (zone : ℤ) (table quantity money before : 
 
 -- room for the longest text, and a list of positions before settlement as long as the users' lists
 pub record TextRoom (out : List ℕ) (before entry : List ℤ) : Type 0 where
-  pub room : 13_592 ≤ length out
+  pub room : textMost ≤ length out
   pub befores : length before ≡ length entry
   pub users : length entry ≤ usersMost
 
--- room for the longest text, and four lists with a place for each of at most 128 users
+-- room for the longest text, and four lists with a place for each user
 pub record ReadLists (out : List ℕ) (n : ℕ) (entries exits titles poolings : List ℤ) : Type 0 where
-  pub room : 13_592 ≤ length out
+  pub room : textMost ≤ length out
   pub users : n ≤ usersMost
   pub entry : n ≤ length entries
   pub exit : n ≤ length exits

@@ -61,5 +61,8 @@ ofFile (read h z rows) =
     openedNew (pos h) (pos z) (map (λ r. r .entry) rows) (map (λ r. r .exit) rows) (map (λ r. r .title) rows) (map (λ r. r .pooling) rows)
 
 -- "reads a file of at most 65,536 bytes"; "A longer input prints `refused,14`."
+abbrev pub inputMost : ℕ
+inputMost = 65_536
+
 unfoldable pub printed : List ℕ → List ℕ
-printed input = cond (leb (length input) 65_536) (ofFile (fileOf input)) (refusedLine 14)
+printed input = cond (leb (length input) inputMost) (ofFile (fileOf input)) (refusedLine 14)

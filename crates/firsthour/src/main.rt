@@ -9,9 +9,9 @@ ghost use Rattle.rules.specs.Answers.{hourNumber};
 ghost use Rattle.allocation_file.specs.File.{fileOf};
 ghost use Rattle.io.specs.Counts.{Counts};
 ghost use Rattle.text.specs.Puts.{Put};
-ghost use Rattle.firsthour.specs.Lent.{sums, Adds, Settled, settledText, TextRoom, ReadLists};
+ghost use Rattle.firsthour.specs.Lent.{textMost, sums, Adds, Settled, settledText, TextRoom, ReadLists};
 ghost use Rattle.firsthour.specs.Examples.{ExamplesPrinted};
-ghost use Rattle.firsthour.specs.Printed.{settled, termsOf, withDefaults, opened, openedNew, ofFile, printed};
+ghost use Rattle.firsthour.specs.Printed.{inputMost, settled, termsOf, withDefaults, opened, openedNew, ofFile, printed};
 use allocation_file::FileAnswer;
 use allocation_file::read_hour_file;
 use gas_day::default_thresholds;
@@ -70,7 +70,11 @@ fn settled_text(
     before: &mut [i64],
 ) -> usize
     requires { ⌜ Settled (now out) zone (now table) (now quantity) (now money) (now before) ⌝ }
-    ensures { λ r. ⌜ Put (now (out .entry)) 0 (settledText zone (now (table .entry)) (now (quantity .entry)) (now (money .entry))) (now (out .exit)) r ⌝ }
+    ensures { λ r. ⌜
+        Put (now (out .entry)) 0
+        (settledText zone (now (table .entry)) (now (quantity .entry)) (now (money .entry)))
+        (now (out .exit)) r
+        ⌝ }
 {
     let start = first_place(zone);
     let end = start + quantity.len();
@@ -105,7 +109,13 @@ fn hour_text(
     before: &mut [i64],
 ) -> usize
     requires { ⌜ TextRoom (now out) (now before) (now entry) ⌝ }
-    ensures { λ r. ⌜ Put (now (out .entry)) 0 (settled day (now (table .entry)) (hourGiven terms (now (entry .entry)) (now (exit .entry)) (now (title .entry)) (now (pooling .entry)) (now (quantity .entry)) (now (money .entry)) (now (scratch .entry)))) (now (out .exit)) r ⌝ }
+    ensures { λ r. ⌜
+        Put (now (out .entry)) 0
+        (settled day (now (table .entry)) (hourGiven terms
+        (now (entry .entry)) (now (exit .entry)) (now (title .entry)) (now (pooling .entry))
+        (now (quantity .entry)) (now (money .entry)) (now (scratch .entry))))
+        (now (out .exit)) r
+        ⌝ }
 {
     let number = cause_of(settle_hour(
         day,
@@ -155,7 +165,13 @@ fn january_text(
     before: &mut [i64],
 ) -> usize
     requires { ⌜ TextRoom (now out) (now before) (now entry) ⌝ }
-    ensures { λ r. ⌜ Put (now (out .entry)) 0 (withDefaults day (now (table .entry)) hour zone (now (entry .entry)) (now (exit .entry)) (now (title .entry)) (now (pooling .entry)) (now (quantity .entry)) (now (money .entry)) (now (scratch .entry))) (now (out .exit)) r ⌝ }
+    ensures { λ r. ⌜
+        Put (now (out .entry)) 0
+        (withDefaults day (now (table .entry)) hour zone
+        (now (entry .entry)) (now (exit .entry)) (now (title .entry)) (now (pooling .entry))
+        (now (quantity .entry)) (now (money .entry)) (now (scratch .entry)))
+        (now (out .exit)) r
+        ⌝ }
 {
     let thresholds = match default_thresholds(MONTH, zone) {
         ThresholdsAnswer::Refused(number) => return write_refused(out, number),
@@ -193,7 +209,13 @@ fn day_text(
     before: &mut [i64],
 ) -> usize
     requires { ⌜ TextRoom (now out) (now before) (now entry) ⌝ }
-    ensures { λ r. ⌜ Put (now (out .entry)) 0 (opened hour zone (now (table .entry)) (now (entry .entry)) (now (exit .entry)) (now (title .entry)) (now (pooling .entry)) (now (quantity .entry)) (now (money .entry)) (now (scratch .entry))) (now (out .exit)) r ⌝ }
+    ensures { λ r. ⌜
+        Put (now (out .entry)) 0
+        (opened hour zone (now (table .entry))
+        (now (entry .entry)) (now (exit .entry)) (now (title .entry)) (now (pooling .entry))
+        (now (quantity .entry)) (now (money .entry)) (now (scratch .entry)))
+        (now (out .exit)) r
+        ⌝ }
 {
     let day = match open(integers::signed(entry.len() as u64), table) {
         OpenAnswer::Refused(number) => return write_refused(out, number),
@@ -228,7 +250,13 @@ fn amounts_text(
     poolings: &[i64],
 ) -> usize
     requires { ⌜ ReadLists (now out) n (now entries) (now exits) (now titles) (now poolings) ⌝ }
-    ensures { λ r. ⌜ Put (now (out .entry)) 0 (openedNew hour zone (take n (now (entries .entry))) (take n (now (exits .entry))) (take n (now (titles .entry))) (take n (now (poolings .entry)))) (now (out .exit)) r ⌝ }
+    ensures { λ r. ⌜
+        Put (now (out .entry)) 0
+        (openedNew hour zone
+        (take n (now (entries .entry))) (take n (now (exits .entry)))
+        (take n (now (titles .entry))) (take n (now (poolings .entry))))
+        (now (out .exit)) r
+        ⌝ }
 {
     let mut table = [0i64; 256];
     let mut quantity = [0i64; 128];
@@ -253,7 +281,7 @@ fn amounts_text(
 
 // The text of a file.
 fn file_text(out: &mut [u8], file: &[u8]) -> usize
-    requires { ⌜ 13_592 ≤ length (now out) ⌝ }
+    requires { ⌜ textMost ≤ length (now out) ⌝ }
     ensures { λ r. ⌜ Put (now (out .entry)) 0 (ofFile (fileOf (now (file .entry)))) (now (out .exit)) r ⌝ }
 {
     let mut entries = [0i64; 128];
@@ -278,7 +306,7 @@ fn file_text(out: &mut [u8], file: &[u8]) -> usize
 
 // The text that is printed for an input.
 fn input_text(out: &mut [u8], input: &[u8]) -> usize
-    requires { ⌜ 13_592 ≤ length (now out) ⌝ }
+    requires { ⌜ textMost ≤ length (now out) ⌝ }
     ensures { λ r. ⌜ Put (now (out .entry)) 0 (printed (now (input .entry))) (now (out .exit)) r ⌝ }
 {
     if INPUT_MOST < input.len() {
@@ -289,7 +317,7 @@ fn input_text(out: &mut [u8], input: &[u8]) -> usize
 
 // Reads the input into `room`, which has a byte more than the longest file, so that a longer input is seen. A read that fails counts as the end of the input.
 fn read_input(room: &mut [u8]) -> usize
-    requires { ⌜ 65_536 < length (now room) ⌝ }
+    requires { ⌜ inputMost < length (now room) ⌝ }
     ensures { λ r. ⌜ Counts r (now (room .exit)) ⌝ }
 {
     io::read_full(STDIN_FILENO, room)

@@ -24,10 +24,13 @@ abbrev μ-loop : tie.MeasureT-loop
 long : (c : tie.Start Inv-loop μ-loop) → length (sums (now (c .args .quantity)) (now (c .args .after))) ≡ length (now (c .args .before))
 long c = length-sums (now (c .args .quantity)) (now (c .args .after)) ∙ sym (c .pre .outs)
 
-first : (c : tie.After-before3 Inv-loop μ-loop) → let x = getD (now (c .before .before .before .before .args .quantity)) (c .before .before .before .loop .i) (pos 0) in toZ w64 (ofZ w64 x) ≡ x
-first c = back (getD (now (c .before .before .before .before .args .quantity)) (c .before .before .before .loop .i) (pos 0)) (c .before .before2 .given)
+first : (c : tie.After-before3 Inv-loop μ-loop) → let x =
+    getD (now (c .before .before .before .before .args .quantity)) (c .before .before .before .loop .i) (pos 0) in toZ w64 (ofZ w64 x) ≡ x
+first c =
+    back (getD (now (c .before .before .before .before .args .quantity)) (c .before .before .before .loop .i) (pos 0)) (c .before .before2 .given)
 
-second : (c : tie.After-before3 Inv-loop μ-loop) → let x = getD (now (c .before .before .before .before .args .after)) (c .before .before .before .loop .i) (pos 0) in toZ w64 (ofZ w64 x) ≡ x
+second : (c : tie.After-before3 Inv-loop μ-loop) → let x =
+    getD (now (c .before .before .before .before .args .after)) (c .before .before .before .loop .i) (pos 0) in toZ w64 (ofZ w64 x) ≡ x
 second c = back (getD (now (c .before .before .before .before .args .after)) (c .before .before .before .loop .i) (pos 0)) (c .before3 .given)
 
 loop-holds : tie.Need-loop-holds Inv-loop μ-loop
@@ -48,7 +51,8 @@ shared-slice-copy-out-before-2 c = omega (arith, c .before .before .before .pre 
 add-before : tie.Need-add-before Inv-loop μ-loop
 add-before c =
     let a = c .before .before .before .before .args in
-    sum-fits (now (a .quantity)) (now (a .after)) (c .before .before .before .before .pre) (c .before .before .before .loop .i) (search needs) (first c) (second c)
+    sum-fits (now (a .quantity)) (now (a .after)) (c .before .before .before .before .pre) (c .before .before .before .loop .i)
+    (search needs) (first c) (second c)
 
 mul-t13 : tie.Need-mul-t13 Inv-loop μ-loop
 mul-t13 c = search needs

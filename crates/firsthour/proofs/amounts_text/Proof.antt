@@ -32,10 +32,14 @@ slice-aggregate-day-text-2 : tie.Need-slice-aggregate-day-text-2
 slice-aggregate-day-text-2 c = let s = c .before .before .before .before in sym (length-take-le (s .args .n) (now (s .args .entries)) (s .pre .entry))
 
 slice-aggregate-day-text-3 : tie.Need-slice-aggregate-day-text-3
-slice-aggregate-day-text-3 c = let s = c .before .before .before .before .before in sym (length-take-le (s .args .n) (now (s .args .exits)) (s .pre .exit))
+slice-aggregate-day-text-3 c =
+    let s = c .before .before .before .before .before in
+    sym (length-take-le (s .args .n) (now (s .args .exits)) (s .pre .exit))
 
 slice-aggregate-day-text-4 : tie.Need-slice-aggregate-day-text-4
-slice-aggregate-day-text-4 c = let s = c .before .before .before .before .before .before in sym (length-take-le (s .args .n) (now (s .args .titles)) (s .pre .title))
+slice-aggregate-day-text-4 c =
+    let s = c .before .before .before .before .before .before in
+    sym (length-take-le (s .args .n) (now (s .args .titles)) (s .pre .title))
 
 slice-aggregate-day-text-5 : tie.Need-slice-aggregate-day-text-5
 slice-aggregate-day-text-5 c = let s = start c in sym (length-take-le (s .args .n) (now (s .args .poolings)) (s .pre .pooling))
@@ -79,7 +83,11 @@ returns c =
     let w = written c in
     let s = start (w .before .before .before .before .before) in
     let a = s .args in
-    rw (read (s .fits .hour), read (s .fits .zone), opened-new (a .hour) (a .zone) (now (a .entries)) (now (a .exits)) (now (a .titles)) (now (a .poolings)) (a .n) (s .pre .users) (s .pre .entry))
+    rw (
+      read (s .fits .hour),
+      read (s .fits .zone),
+      opened-new (a .hour) (a .zone) (now (a .entries)) (now (a .exits)) (now (a .titles)) (now (a .poolings)) (a .n) (s .pre .users) (s .pre .entry),
+    )
     at (w .day-text .ensures)
 
 pub amounts-text-spec : {M : Type 1} → statement M

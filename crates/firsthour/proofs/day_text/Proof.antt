@@ -16,7 +16,8 @@ use Rattle.firsthour.proofs.day_text.Tie as tie
 counted : (c : tie.After-signed) → toZ w64 (ofZ w64 (c .signed .result)) ≡ pos (length (now (c .before .before .before .args .entry)))
 counted c = back (c .signed .result) (c .signed .ok) ∙ c .signed .ensures
 
-answered : (o : tie.After-open) → let a = o .before .before .before .before .before .args in o .«open» .result ≡ openAnswer (pos (length (now (a .entry)))) (now (a .table))
+answered : (o : tie.After-open) → let a =
+    o .before .before .before .before .before .args in o .«open» .result ≡ openAnswer (pos (length (now (a .entry)))) (now (a .table))
 answered o = rw (counted (o .before .before)) at (o .«open» .ensures .answer)
 
 signed-requires : tie.Need-signed-requires
@@ -43,7 +44,8 @@ returns c =
     let k = c .before .before .before .before .before in
     let o = k .before .before .before in
     let a = o .before .before .before .before .before .args in
-    rw (open-refused (pos (length (now (a .entry)))) (now (a .table)) _ (sym (k .number .given .1) ∙ answered o)) (c .before .before .write-refused .ensures)
+    rw (open-refused (pos (length (now (a .entry)))) (now (a .table)) _ (sym (k .number .given .1) ∙ answered o))
+    (c .before .before .write-refused .ensures)
 
 enum-known-day : tie.Need-enum-known-day
 enum-known-day c = search needs

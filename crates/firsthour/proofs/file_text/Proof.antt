@@ -78,7 +78,8 @@ returns : tie.Need-returns
 returns c =
     let k = c .before .before .before .before .before in
     let r = k .before .before .before .before .before .before in
-    rw (file-refused (fileOf (now (entry r .args .file))) (sym (k .number .given .1) ∙ r .read-hour-file .ensures .answer)) (c .before .before .write-refused .ensures)
+    rw (file-refused (fileOf (now (entry r .args .file))) (sym (k .number .given .1) ∙ r .read-hour-file .ensures .answer))
+    (c .before .before .write-refused .ensures)
 
 enum-known-read : tie.Need-enum-known-read
 enum-known-read c = search needs

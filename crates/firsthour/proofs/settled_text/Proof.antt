@@ -68,7 +68,8 @@ returns : tie.Need-returns
 returns c =
     let f = placed c in
     let a = entry f .args in
-    settled-put (a .zone) (now (a .table)) (now (a .quantity)) (now (a .money)) _ _ (is-after f) (c .before .before .before .before .before .before .add-quantities .ensures) (c .before .before .write-hour .ensures)
+    settled-put (a .zone) (now (a .table)) (now (a .quantity)) (now (a .money)) _ _ (is-after f)
+    (c .before .before .before .before .before .before .add-quantities .ensures) (c .before .before .write-hour .ensures)
 
 pub settled-text-spec : {M : Type 1} → statement M
 settled-text-spec =
