@@ -3,7 +3,9 @@ use mathlib.Core.Path.{refl}
 use Rattle.rules.specs.Compute.{rules}
 use Rattle.allocation_row.specs.Rows.{asRow}
 use Rattle.allocation_file.specs.File.{fileOf}
-use Rattle.cases.specs.Cases.{opened, termsOf, moved, said, quantity, money, left, hourFigures, nines, fileA, saidBy, saidA, caseA, figuresA, caseB, figuresB, figuresC, figuresD, figuresE, figuresF, figuresG, caseI, figuresI, figuresJ, tableH, caseH, figuresH, figuresK, figures, AllFigures}
+use Rattle.cases.specs.Cases.{opened, termsOf, moved, said, quantity, money, left, hourFigures, nines, fileA, saidBy, saidA}
+use Rattle.cases.specs.Cases.{caseA, figuresA, caseB, figuresB, figuresC, figuresD, figuresE, figuresF, figuresG, caseI, figuresI, figuresJ}
+use Rattle.cases.specs.Cases.{tableH, caseH, figuresH, figuresK, figures, AllFigures}
 use Rattle.cases.specs.Examples.{exampleHour, exampleClosing, hoursFrom, wholeDay, start, WholeDay, TwelveUsers, Defaults}
 
 pub all-figures : AllFigures
