@@ -1,0 +1,3 @@
+-- The laws of the comparisons.
+pub mod Lists
+pub mod Near

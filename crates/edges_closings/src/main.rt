@@ -1,0 +1,235 @@
+// The edges of closing a zone, one line a case: its row, what the answer says, and what a comparison with what was lent says. The file `stdout`, with which the lines
+// are compared, was written from document 01.
+use checking::all_are;
+use checking::at;
+use checking::lent;
+use checking::put;
+use integers::natural;
+use ranges::limits::Position;
+use ranges::limits::Price;
+use rules::ClosingAnswer;
+use rules::ClosingDone;
+use rules::ClosingTerms;
+use rules::Day;
+use rules::Refusal;
+
+const POSITION: i64 = Position::MOST;
+
+const PRICE: i64 = Price::MOST;
+
+// The columns: the record; zone, excess price, shortfall price; places of the table, the quantity list and the money list; a place of the table and what it holds.
+const NAMES: [u8; 119] =
+    *b"closing after users |, H |, closed |, L |, closed |, zone |, at | and |, table of |, lists of | and |, place | holding ";
+
+const ROWS: [[i64; 13]; 41] = [
+    // the usual closing; 2: users, hours and closed zones of the record
+    [3, 24, 0, 2, 0, 0, 20_000, 25_000, 256, 3, 3, 1, -7],
+    [0, 24, 0, 2, 0, 0, 20_000, 25_000, 256, 3, 3, 1, -7],
+    [129, 24, 0, 2, 0, 0, 20_000, 25_000, 256, 3, 3, 1, -7],
+    [-1, 24, 0, 2, 0, 0, 20_000, 25_000, 256, 3, 3, 1, -7],
+    [3, 25, 0, 2, 0, 0, 20_000, 25_000, 256, 3, 3, 1, -7],
+    [3, 24, 0, -1, 0, 0, 20_000, 25_000, 256, 3, 3, 1, -7],
+    [3, 24, 0, 23, 1, 0, 20_000, 25_000, 256, 3, 3, 1, -7],
+    [0, 24, 0, 2, 0, 0, 20_000, 25_000, 255, 3, 3, 1, -7],
+    // 3: the table, the quantity list and the money list
+    [3, 24, 0, 2, 0, 0, 20_000, 25_000, 255, 3, 3, 1, -7],
+    [3, 24, 0, 2, 0, 0, 20_000, 25_000, 257, 3, 3, 1, -7],
+    [3, 24, 0, 2, 0, 0, 20_000, 25_000, 256, 2, 3, 1, -7],
+    [3, 24, 0, 2, 0, 0, 20_000, 25_000, 256, 4, 3, 1, -7],
+    [3, 24, 0, 2, 0, 0, 20_000, 25_000, 256, 3, 2, 1, -7],
+    [3, 24, 0, 2, 0, 0, 20_000, 25_000, 256, 3, 4, 1, -7],
+    [3, 24, 0, 2, 0, 2, 20_000, 25_000, 256, 3, 4, 1, -7],
+    // 4 to 6: zones, closed zones, hours
+    [3, 24, 0, 2, 0, -1, 20_000, 25_000, 256, 3, 3, 1, -7],
+    [3, 24, 0, 2, 0, 2, 20_000, 25_000, 256, 3, 3, 1, -7],
+    [3, 24, 1, 2, 0, 0, 20_000, 25_000, 256, 3, 3, 1, -7],
+    [3, 23, 0, 2, 0, 0, 20_000, 25_000, 256, 3, 3, 1, -7],
+    [3, 0, 0, 2, 0, 0, 20_000, 25_000, 256, 3, 3, 1, -7],
+    [3, 24, 0, 2, 0, 1, 20_000, 25_000, 256, 3, 3, 1, -7],
+    [3, 24, 0, 24, 0, 1, 20_000, 25_000, 256, 3, 3, 1, -7],
+    // 7: positions at and beyond their limits, places beyond the users, zones with no hours, closed zones
+    [3, 24, 0, 2, 0, 0, PRICE, PRICE, 256, 3, 3, 0, POSITION],
+    [3, 24, 0, 2, 0, 0, PRICE, -PRICE, 256, 3, 3, 0, -POSITION],
+    [
+        3,
+        24,
+        0,
+        2,
+        0,
+        0,
+        20_000,
+        25_000,
+        256,
+        3,
+        3,
+        0,
+        POSITION + 1,
+    ],
+    [
+        3,
+        24,
+        0,
+        2,
+        0,
+        0,
+        20_000,
+        25_000,
+        256,
+        3,
+        3,
+        130,
+        -POSITION - 1,
+    ],
+    [3, 24, 0, 2, 0, 0, 20_000, 25_000, 256, 3, 3, 3, 1],
+    [3, 24, 0, 2, 0, 0, 20_000, 25_000, 256, 3, 3, 255, -1],
+    [3, 24, 0, 0, 0, 0, 20_000, 25_000, 256, 3, 3, 1, -7],
+    [3, 24, 0, 24, 1, 0, 20_000, 25_000, 256, 3, 3, 1, -7],
+    [3, 24, 0, 24, 1, 0, 20_000, 25_000, 256, 3, 3, 128, 0],
+    [3, 24, 0, 2, 0, 0, PRICE + 1, 25_000, 256, 3, 3, 3, 1],
+    // 8: prices
+    [3, 24, 0, 2, 0, 0, PRICE, 0, 256, 3, 3, 1, -7],
+    [3, 24, 0, 2, 0, 0, PRICE + 1, 0, 256, 3, 3, 1, -7],
+    [3, 24, 0, 2, 0, 0, -PRICE, 0, 256, 3, 3, 1, -7],
+    [3, 24, 0, 2, 0, 0, -PRICE - 1, 0, 256, 3, 3, 1, -7],
+    [3, 24, 0, 2, 0, 0, 0, PRICE, 256, 3, 3, 1, -7],
+    [3, 24, 0, 2, 0, 0, 0, PRICE + 1, 256, 3, 3, 1, -7],
+    [3, 24, 0, 2, 0, 0, 0, -PRICE, 256, 3, 3, 1, -7],
+    [3, 24, 0, 2, 0, 0, 0, -PRICE - 1, 256, 3, 3, 1, -7],
+    // 128 users
+    [
+        128,
+        24,
+        0,
+        2,
+        0,
+        0,
+        20_000,
+        25_000,
+        256,
+        128,
+        128,
+        127,
+        POSITION,
+    ],
+];
+
+// What the lists to be written hold before a call.
+const LENT_QUANTITY: i64 = 71;
+
+const LENT_MONEY: i64 = 72;
+
+// ---- what a row says
+
+fn day(row: &[i64]) -> Day {
+    checking::day_of(at(row, 0), at(row, 1), at(row, 2), at(row, 3), at(row, 4))
+}
+
+// The table holds 5 and -7 in H and -3 in L, but for one place.
+fn fill(table: &mut [i64], row: &[i64]) {
+    put(table, 0, 5);
+    put(table, 1, -7);
+    put(table, 128, -3);
+    put(table, natural(at(row, 11)), at(row, 12));
+}
+
+// ---- the call, and its line
+
+fn close(row: &[i64], table: &mut [i64], quantity: &mut [i64], money: &mut [i64]) -> ClosingAnswer {
+    let terms = ClosingTerms {
+        zone: at(row, 5),
+        excess_price: at(row, 6),
+        shortfall_price: at(row, 7),
+    };
+    gas_day::close_zone(
+        day(row),
+        lent(table, 0, natural(at(row, 8))),
+        terms,
+        lent(quantity, 0, natural(at(row, 9))),
+        lent(money, 0, natural(at(row, 10))),
+    )
+}
+
+// The sums; user 0's quantity, money and place after; and what is compared.
+fn say_closed(
+    done: ClosingDone,
+    row: &[i64],
+    before: &[i64],
+    table: &[i64],
+    quantity: &[i64],
+    money: &[i64],
+) {
+    let start = checking::first_place(at(row, 5));
+    printing::say(b": closed, ");
+    printing::say_day(done.day);
+    let numbers = [
+        done.sold,
+        done.bought,
+        at(quantity, 0),
+        at(money, 0),
+        at(table, start),
+    ];
+    printing::say_row(b", sold |, bought |, quantity |, money |, after ", &numbers);
+    printing::say_holds(b"part zero", all_are(checking::part(table, start, 128), 0));
+    printing::say_kept(
+        b"other places",
+        checking::same_outside(before, table, start, natural(at(row, 0))),
+    );
+}
+
+fn say_refused(
+    refusal: Refusal,
+    row: &[i64],
+    before: &[i64],
+    table: &[i64],
+    quantity: &[i64],
+    money: &[i64],
+) {
+    printing::say_refusal(refusal, day(row));
+    printing::say_lent(
+        checking::same_list(table, before),
+        all_are(quantity, LENT_QUANTITY),
+        all_are(money, LENT_MONEY),
+    );
+}
+
+fn say_answer(
+    answer: ClosingAnswer,
+    row: &[i64],
+    before: &[i64],
+    table: &[i64],
+    quantity: &[i64],
+    money: &[i64],
+) {
+    match answer {
+        ClosingAnswer::Refused(refusal) => say_refused(
+            refusal,
+            row,
+            before,
+            table,
+            quantity,
+            money,
+        ),
+        ClosingAnswer::Closed(done) => say_closed(done, row, before, table, quantity, money),
+    }
+    printing::end_line();
+}
+
+fn run(row: [i64; 13]) {
+    let mut before = [0i64; 257];
+    let mut table = [0i64; 257];
+    let mut quantity = [LENT_QUANTITY; 129];
+    let mut money = [LENT_MONEY; 129];
+    fill(&mut before, &row);
+    fill(&mut table, &row);
+    printing::say_row(&NAMES, &row);
+    let answer = close(&row, &mut table, &mut quantity, &mut money);
+    say_answer(answer, &row, &before, &table, &quantity, &money);
+}
+
+fn main() {
+    let mut i: usize = 0;
+    while i < 41 {
+        run(ROWS[i]);
+        i += 1;
+    }
+}

@@ -1,0 +1,20 @@
+-- The measure is the number of rows left. Assumes nothing.
+use Prim.Native.Nat.{_-_}
+use native.Mathlib.Omega.{arith}
+use borrow.Author.Needs.{needs}
+use Rattle.edges_hours.proofs.opening.thresholds.Statement.{statement}
+use Rattle.edges_hours.proofs.opening.thresholds.Tie as tie
+
+abbrev Inv-loop : tie.InvT-loop
+Inv-loop i₀ i = Unit
+
+abbrev μ-loop : tie.MeasureT-loop
+μ-loop i₀ i = 68 - i
+
+pub thresholds-spec : {M : Type 1} → statement M
+thresholds-spec =
+    tie.close
+    (tie.spec
+    Inv-loop μ-loop (λ c. search needs) (λ c. search needs) (λ c. search needs) (λ c. search needs)
+    (λ c. search needs) (λ c κs. search needs) (λ c. search needs) (λ c. omega arith) (λ c. search needs)
+    (λ c. search needs))
