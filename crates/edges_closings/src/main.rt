@@ -215,14 +215,13 @@ fn say_answer(
 }
 
 fn run(row: [i64; 13]) {
-    let mut before = [0i64; 257];
     let mut table = [0i64; 257];
     let mut quantity = [LENT_QUANTITY; 129];
     let mut money = [LENT_MONEY; 129];
-    fill(&mut before, &row);
     fill(&mut table, &row);
-    printing::say_row(&NAMES, &row);
+    let before = table;
     let answer = close(&row, &mut table, &mut quantity, &mut money);
+    printing::say_row(&NAMES, &row);
     say_answer(answer, &row, &before, &table, &quantity, &money);
 }
 

@@ -74,11 +74,9 @@ pub const THRESHOLDS: [i64; 4] = [UPPER, THRESHOLD, LOWER, -THRESHOLD];
 
 pub const POSITIONS: [i64; 6] = [TABLE_SIZE, 256, TABLE, 5, TABLE + 128, -3];
 
-pub const ENTRIES: [i64; 6] = [ENTRY, 10, ENTRY + 1, 20, ENTRY + 2, 30];
+pub const ENTRIES: [i64; 6] = [ENTRY, 10, ENTRY + 1, 14, ENTRY + 2, 28];
 
-pub const EXITS: [i64; 6] = [EXIT, -1, EXIT + 1, -2, EXIT + 2, -3];
-
-pub const TITLES: [i64; 6] = [TITLE, 4, TITLE + 1, -4, TITLE + 2, 1];
+pub const OTHERS: [i64; 4] = [EXIT, -1, TITLE, 4];
 
 // One change: the kind, how many numbers it is given in turn, and these.
 pub const ALONE: [[i64; 7]; 41] = [

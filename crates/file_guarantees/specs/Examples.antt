@@ -71,12 +71,13 @@ examples =
     ∷ record { file = bytes "no header"; places = 0; says = refused 12 }
     ∷ record { file = header ++ bytes "1,H,0,0,0,0,0\r\n"; places = 127; says = refused 12 }
     ∷ record { file = header ++ bytes "1,H,0,0,0,0,0\r\n"; places = 129; says = refused 12 }
-    -- 13: no bytes; a header that lacks its LF, its CR LF or its CR; one in other letters; a blank before it; a byte order mark before it
+    -- 13: no bytes; a header that lacks its LF, its CR LF or its CR; one in other letters, or with another last letter; a blank before it; a byte order mark before it
     ∷ whole "" (refused 13)
     ∷ whole "h,z,g,EEA,XEA,NCTTN,IPT\r" (refused 13)
     ∷ whole "h,z,g,EEA,XEA,NCTTN,IPT" (refused 13)
     ∷ whole "h,z,g,EEA,XEA,NCTTN,IPT\n1,H,0,0,0,0,0\n" (refused 13)
     ∷ whole "h,z,g,eea,xea,ncttn,ipt\r\n1,H,0,0,0,0,0\r\n" (refused 13)
+    ∷ whole "h,z,g,EEA,XEA,NCTTN,IPX\r\n1,H,0,0,0,0,0\r\n" (refused 13)
     ∷ whole " h,z,g,EEA,XEA,NCTTN,IPT\r\n1,H,0,0,0,0,0\r\n" (refused 13)
     ∷ record { file = 239 ∷ 187 ∷ 191 ∷ (header ++ bytes "1,H,0,0,0,0,0\r\n"); places = 128; says = refused 13 }
     -- 17: the 25 bytes and nothing more

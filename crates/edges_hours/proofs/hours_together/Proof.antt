@@ -2,8 +2,8 @@
 use Prim.Native.Nat.{_-_}
 use native.Mathlib.Omega.{arith}
 use borrow.Author.Needs.{needs}
-use Rattle.edges_hours.proofs.hour.hours_together.Statement.{statement}
-use Rattle.edges_hours.proofs.hour.hours_together.Tie as tie
+use Rattle.edges_hours.proofs.hours_together.Statement.{statement}
+use Rattle.edges_hours.proofs.hours_together.Tie as tie
 
 abbrev Inv-loop : tie.InvT-loop
 Inv-loop i₀ i = Unit

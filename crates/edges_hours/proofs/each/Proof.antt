@@ -3,8 +3,8 @@ use Prim.Native.Nat.{_-_}
 use lib.ListN.{length}
 use native.Mathlib.Omega.{arith}
 use borrow.Author.Needs.{needs}
-use Rattle.edges_hours.proofs.hour.each.Statement.{statement}
-use Rattle.edges_hours.proofs.hour.each.Tie as tie
+use Rattle.edges_hours.proofs.each.Statement.{statement}
+use Rattle.edges_hours.proofs.each.Tie as tie
 
 abbrev Inv-loop : tie.InvT-loop
 Inv-loop kind numbers k₀ k = Unit

@@ -1,4 +1,5 @@
-// The edges of opening a day and of the default thresholds: every number of a list with every one of another.
+// The edges of opening a day and of the default thresholds, one line a case: every number of a list with every one of another. The file `stdout`, with which the
+// lines are compared, was written from document 01.
 use checking::all_are;
 use checking::at;
 use checking::first;
@@ -60,7 +61,7 @@ fn open(users: i64, places: i64) {
     say_opened(answer, &table);
 }
 
-pub fn openings() {
+fn openings() {
     let mut i: usize = 0;
     while i < 36 {
         open(USERS[i % 9], SIZES[i / 9]);
@@ -81,10 +82,15 @@ fn default_thresholds(month: i64, zone: i64) {
     printing::end_line();
 }
 
-pub fn thresholds() {
+fn thresholds() {
     let mut i: usize = 0;
     while i < 68 {
         default_thresholds(MONTHS[i % 17], ZONES[i / 17]);
         i += 1;
     }
+}
+
+fn main() {
+    openings();
+    thresholds();
 }

@@ -2,8 +2,8 @@
 use Prim.Native.Nat.{_-_}
 use native.Mathlib.Omega.{arith}
 use borrow.Author.Needs.{needs}
-use Rattle.edges_hours.proofs.hour.hours_alone.Statement.{statement}
-use Rattle.edges_hours.proofs.hour.hours_alone.Tie as tie
+use Rattle.edges_hours.proofs.hours_alone.Statement.{statement}
+use Rattle.edges_hours.proofs.hours_alone.Tie as tie
 
 abbrev Inv-loop : tie.InvT-loop
 Inv-loop i₀ i = Unit

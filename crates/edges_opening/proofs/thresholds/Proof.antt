@@ -2,8 +2,8 @@
 use Prim.Native.Nat.{_-_}
 use native.Mathlib.Omega.{arith}
 use borrow.Author.Needs.{needs}
-use Rattle.edges_hours.proofs.opening.thresholds.Statement.{statement}
-use Rattle.edges_hours.proofs.opening.thresholds.Tie as tie
+use Rattle.edges_opening.proofs.thresholds.Statement.{statement}
+use Rattle.edges_opening.proofs.thresholds.Tie as tie
 
 abbrev Inv-loop : tie.InvT-loop
 Inv-loop i₀ i = Unit
