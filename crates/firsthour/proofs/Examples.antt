@@ -5,7 +5,8 @@ use Rattle.allocation_file.specs.File.{fileOf}
 use Rattle.rules.specs.Compute.{rules}
 use Rattle.text.specs.Decimals.{digitsIn, digits, decimal}
 use Rattle.report.specs.Text.{lineEnd, heading, field, userLine, refusedLine, lineAt, userLines, hourText}
-use Rattle.firsthour.specs.Printed.{unlessRefused, settled, termsOf, januaryTerms, withDefaults, opened, openedNew, ofFile, printed}
+use Rattle.hour_text.specs.Opened.{unlessRefused, settled, termsOf, januaryTerms, withDefaults, opened, openedNew}
+use Rattle.firsthour.specs.Printed.{ofFile, printed}
 use Rattle.firsthour.specs.Examples.{ExamplesPrinted}
 
 pub examples-printed : ExamplesPrinted

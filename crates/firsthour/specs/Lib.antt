@@ -1,4 +1,3 @@
--- What the program prints, and what its functions ask of the lists that they are lent.
+-- What the program prints.
 pub mod Printed
-pub mod Lent
 pub mod Examples

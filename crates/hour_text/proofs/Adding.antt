@@ -9,7 +9,7 @@ use mir.Syntax.{w64}
 use mir.Val.{SFits}
 use Rattle.integers.proofs.Counts.{length-tabulate, getD-tabulate}
 use Rattle.integers.proofs.Machine.{fits}
-use Rattle.firsthour.specs.Lent.{sums, Adds}
+use Rattle.hour_text.specs.Lent.{sums, Adds}
 
 module _ (xs ys : List ℤ) where
   pub length-sums : length (sums xs ys) ≡ length xs

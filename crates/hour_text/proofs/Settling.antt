@@ -26,9 +26,9 @@ use Rattle.rules.proofs.Conserving.{length-before, positions-left}
 use Rattle.rules.proofs.Settling.{length-quantities, after-at}
 use Rattle.report.specs.Text.{refusedLine, hourText}
 use Rattle.text.specs.Puts.{Put}
-use Rattle.firsthour.specs.Lent.{sums, Adds, afters, settledText, Settled, TextRoom}
-use Rattle.firsthour.specs.Printed.{unlessRefused, settled}
-use Rattle.firsthour.proofs.Adding.{length-sums, sums-at}
+use Rattle.hour_text.specs.Lent.{sums, Adds, afters, settledText, Settled, TextRoom}
+use Rattle.hour_text.specs.Opened.{unlessRefused, settled}
+use Rattle.hour_text.proofs.Adding.{length-sums, sums-at}
 
 -- ---- the users' places of the table
 pub first-few : (zone : ℤ) → firstPlace zone ≤ 128

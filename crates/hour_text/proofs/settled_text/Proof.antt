@@ -7,10 +7,10 @@ use denote.Ref.{now}
 use borrow.Author.Needs.{needs}
 use Rattle.integers.proofs.Machine.{read}
 use Rattle.rules.specs.Days.{firstPlace}
-use Rattle.firsthour.specs.Lent.{afters}
-use Rattle.firsthour.proofs.Settling.{first-few, after-is, adds-of, settled-put}
-use Rattle.firsthour.proofs.settled_text.Statement.{statement}
-use Rattle.firsthour.proofs.settled_text.Tie as tie
+use Rattle.hour_text.specs.Lent.{afters}
+use Rattle.hour_text.proofs.Settling.{first-few, after-is, adds-of, settled-put}
+use Rattle.hour_text.proofs.settled_text.Statement.{statement}
+use Rattle.hour_text.proofs.settled_text.Tie as tie
 
 -- once the first place is known: the function's entry, and the users' places of the table
 abbrev entry : tie.After-first-place → tie.Start

@@ -6,10 +6,10 @@ use lib.ListN.{length, take, replicate}
 use lib.Seq.{length-take-le}
 use denote.Ref.{now}
 use Rattle.integers.proofs.Machine.{read}
-use Rattle.firsthour.proofs.Reading.{length-zeros, opened-new}
+use Rattle.hour_text.proofs.Zeros.{length-zeros, opened-new}
 use borrow.Author.Needs.{needs}
-use Rattle.firsthour.proofs.amounts_text.Statement.{statement}
-use Rattle.firsthour.proofs.amounts_text.Tie as tie
+use Rattle.hour_text.proofs.amounts_text.Statement.{statement}
+use Rattle.hour_text.proofs.amounts_text.Tie as tie
 
 -- once the user amounts are taken: the function's entry
 abbrev start : tie.After-day-text-arg5 → tie.Start

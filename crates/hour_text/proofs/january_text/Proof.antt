@@ -3,11 +3,11 @@ use mathlib.Core.Path.{_≡_, sym, ap, _∙_}
 use lib.IntN.{pos}
 use Rattle.integers.proofs.Machine.{read}
 use Rattle.rules.specs.Answers.{thresholdsAnswer}
-use Rattle.firsthour.specs.Printed.{termsOf, januaryTerms, withDefaults}
-use Rattle.firsthour.proofs.Opening.{accepted-text, thresholds-refused, thresholds-none, thresholds-are}
+use Rattle.hour_text.specs.Opened.{termsOf, januaryTerms, withDefaults}
+use Rattle.hour_text.proofs.Opening.{accepted-text, thresholds-refused, thresholds-none, thresholds-are}
 use borrow.Author.Needs.{needs}
-use Rattle.firsthour.proofs.january_text.Statement.{statement}
-use Rattle.firsthour.proofs.january_text.Tie as tie
+use Rattle.hour_text.proofs.january_text.Statement.{statement}
+use Rattle.hour_text.proofs.january_text.Tie as tie
 
 -- once the thresholds are answered: the function's entry, and the answer
 abbrev start : tie.After-default-thresholds → tie.Start

@@ -16,7 +16,7 @@ use Rattle.rules.specs.Causes.{openCause, thresholdsCause}
 use Rattle.rules.specs.Answers.{openAnswer, openNumber, thresholdsAnswer, thresholdsNumber}
 use Rattle.rules.proofs.Refusing.{by-none, by-some, by-number}
 use Rattle.report.specs.Text.{refusedLine}
-use Rattle.firsthour.specs.Printed.{unlessRefused}
+use Rattle.hour_text.specs.Opened.{unlessRefused}
 
 refused-line : {c k : ℕ} (text : List ℕ) → k ≡ c → 0 < c → unlessRefused c text ≡ refusedLine k
 unfolding unlessRefused

@@ -7,8 +7,8 @@ use Rattle.rules.proofs.HourAnswer.{the-type}
 use Rattle.rules.specs.declared.HourAnswer.{HourAnswer}
 use Rattle.rules.specs.declared.HourAnswer.the-variants.{Refused, Done}
 use Rattle.rules.specs.Answers.{hourNumber}
-use Rattle.firsthour.proofs.cause_of.Statement.{statement}
-use Rattle.firsthour.proofs.cause_of.Tie as tie
+use Rattle.hour_text.proofs.cause_of.Statement.{statement}
+use Rattle.hour_text.proofs.cause_of.Tie as tie
 
 settled-number : (a : HourAnswer) → tagOf the-type a ≡ 1 → 0 ≡ hourNumber a
 unfolding hourNumber

@@ -7,11 +7,11 @@ use mir.Val.{toZ, ofZ}
 use denote.Ref.{now}
 use Rattle.integers.proofs.Machine.{read, back}
 use Rattle.rules.specs.Answers.{openAnswer}
-use Rattle.firsthour.specs.Printed.{opened}
-use Rattle.firsthour.proofs.Opening.{accepted-text, open-refused, open-none, open-day}
+use Rattle.hour_text.specs.Opened.{opened}
+use Rattle.hour_text.proofs.Opening.{accepted-text, open-refused, open-none, open-day}
 use borrow.Author.Needs.{needs}
-use Rattle.firsthour.proofs.day_text.Statement.{statement}
-use Rattle.firsthour.proofs.day_text.Tie as tie
+use Rattle.hour_text.proofs.day_text.Statement.{statement}
+use Rattle.hour_text.proofs.day_text.Tie as tie
 
 counted : (c : tie.After-signed) → toZ w64 (ofZ w64 (c .signed .result)) ≡ pos (length (now (c .before .before .before .args .entry)))
 counted c = back (c .signed .result) (c .signed .ok) ∙ c .signed .ensures

@@ -1,8 +1,8 @@
 -- Field by field. Assumes nothing.
 use Rattle.integers.proofs.Machine.{read, back}
-use Rattle.firsthour.specs.Printed.{termsOf}
-use Rattle.firsthour.proofs.terms_of.Statement.{statement}
-use Rattle.firsthour.proofs.terms_of.Tie as tie
+use Rattle.hour_text.specs.Opened.{termsOf}
+use Rattle.hour_text.proofs.terms_of.Statement.{statement}
+use Rattle.hour_text.proofs.terms_of.Tie as tie
 
 returns : tie.Need-returns
 unfolding termsOf

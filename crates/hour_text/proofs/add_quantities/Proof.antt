@@ -10,10 +10,10 @@ use borrow.Author.Needs.{needs}
 use denote.Ref.{now}
 use Rattle.integers.proofs.Machine.{read, back}
 use Rattle.integers.proofs.Passes.{Written, written-none, written-next, written-all}
-use Rattle.firsthour.specs.Lent.{sums}
-use Rattle.firsthour.proofs.Adding.{length-sums, sums-at, sum-fits}
-use Rattle.firsthour.proofs.add_quantities.Statement.{statement}
-use Rattle.firsthour.proofs.add_quantities.Tie as tie
+use Rattle.hour_text.specs.Lent.{sums}
+use Rattle.hour_text.proofs.Adding.{length-sums, sums-at, sum-fits}
+use Rattle.hour_text.proofs.add_quantities.Statement.{statement}
+use Rattle.hour_text.proofs.add_quantities.Tie as tie
 
 abbrev Inv-loop : tie.InvT-loop
 Inv-loop quantity after before₀ i₀ before i = (i ≤ length quantity) × Written (sums quantity after) before₀ before i

@@ -4,10 +4,10 @@ use denote.Ref.{now}
 use Rattle.integers.proofs.Machine.{back}
 use Rattle.rules.specs.Hours.{Hour, hourGiven}
 use Rattle.rules.specs.Causes.{hourCause}
-use Rattle.firsthour.proofs.Settling.{cause-is, refused-text, done-text, done-asks}
+use Rattle.hour_text.proofs.Settling.{cause-is, refused-text, done-text, done-asks}
 use borrow.Author.Needs.{needs}
-use Rattle.firsthour.proofs.hour_text.Statement.{statement}
-use Rattle.firsthour.proofs.hour_text.Tie as tie
+use Rattle.hour_text.proofs.hour_text.Statement.{statement}
+use Rattle.hour_text.proofs.hour_text.Tie as tie
 
 abbrev given : tie.Start → Hour
 given c =
