@@ -80,7 +80,10 @@ fn share_all(sizes: &mut [u64], total: u64, sum_of_sizes: u64, out: &mut [i64]) 
     requires { ⌜ length (now out) ≡ length (now sizes) ⌝ }
     requires { ⌜ Input (now sizes) total ⌝ }
     requires { ⌜ «sum_of_sizes» ≡ sum (now sizes) ⌝ }
-    ensures { λ r. ⌜ Shared (now (sizes .entry)) total (now (sizes .exit)) (now (out .exit)) (r .given) (r .low) (r .top) ⌝ }
+    ensures { λ r. ⌜
+        Shared (now (sizes .entry)) total
+        (now (sizes .exit)) (now (out .exit)) (r .given) (r .low) (r .top)
+        ⌝ }
 {
     let mut given: u64 = 0;
     let mut low: u64 = sum_of_sizes;

@@ -1,5 +1,5 @@
 // The edges of closing a zone, one line a case: its row, what the answer says, and what a comparison with what was lent says. The file `stdout`, with which the lines
-// are compared, was written from document 01.
+// are compared, has the answers of document 01.
 use checking::all_are;
 use checking::at;
 use checking::lent;

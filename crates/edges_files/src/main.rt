@@ -1,5 +1,5 @@
 // The edges of the reader of an hour's file that are too long to be computed in a proof: lists of other lengths, the longest files, the longest numbers. Small
-// files with their answers are computed in the crate `file_guarantees`. The file `stdout`, with which the lines are compared, was written from document 01.
+// files with their answers are computed in the crate `file_guarantees`. The file `stdout`, with which the lines are compared, has the answers of document 01.
 use allocation_file::FileAnswer;
 use allocation_file::FileRead;
 use checking::all_are;

@@ -1,5 +1,5 @@
 // The edges of settling an hour, one line a case: its changes of the usual call, what the answer says, and what a comparison with what was lent says. (The four lists
-// of amounts are lent as `&`: no call can change them.) The file `stdout`, with which the lines are compared, was written from document 01.
+// of amounts are lent as `&`: no call can change them.) The file `stdout`, with which the lines are compared, has the answers of document 01.
 use checking::all_are;
 use checking::all_scratch;
 use checking::at;

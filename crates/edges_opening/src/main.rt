@@ -1,5 +1,5 @@
 // The edges of opening a day and of the default thresholds, one line a case: every number of a list with every one of another. The file `stdout`, with which the
-// lines are compared, was written from document 01.
+// lines are compared, has the answers of document 01.
 use checking::all_are;
 use checking::at;
 use checking::first;
