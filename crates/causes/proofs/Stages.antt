@@ -34,6 +34,7 @@ use Rattle.rules.proofs.Zones.{zone-of, length-part}
 use Rattle.rules.proofs.Accepted.{users-of, table-long, hour-lengths, part-fits}
 use Rattle.places.specs.Live.{Tabled}
 use Rattle.positions.specs.Before.{allFit}
+use Rattle.amounts.specs.Amounts.{amountsCause, LentTable}
 use Rattle.positions.proofs.Before.{before-is}
 use Rattle.causes.specs.Steps.{
   amountsLong,
@@ -42,8 +43,6 @@ use Rattle.causes.specs.Steps.{
   hourForm,
   closingForm,
   tableCause,
-  amountsCause,
-  LentTable,
   hourRest,
   RestAsks,
 }

@@ -7,17 +7,15 @@ use Prim.Native.Nat.{ℕ}
 use lib.Dec.{eqb}
 use lib.IntN.{ℤ}
 use lib.ListN.{length}
-use Rattle.integers.specs.Ranges.{isZero}
-use Rattle.integers.specs.Lists.{sumℤ, every}
 use Rattle.rules.specs.declared.Day.{Day}
 use Rattle.rules.specs.declared.HourTerms.{HourTerms}
-use Rattle.rules.specs.Limits.{zoneFit, positionFit}
+use Rattle.rules.specs.Limits.{zoneFit}
 use Rattle.rules.specs.Days.{users, part}
 use Rattle.rules.specs.Hours.{Hour, Closing}
 use Rattle.rules.specs.Refusals.{unless, _then_}
 use Rattle.rules.specs.Causes.{zoneOpen, hourLong, closingLong, hourNext, allDone, tableFit, termsFit}
 use Rattle.places.specs.Live.{Tabled}
-use Rattle.positions.specs.Before.{allFit, befores, Lent}
+use Rattle.amounts.specs.Amounts.{amountsCause}
 
 -- ---- causes 3 to 6, of which the call tests the lengths and the hour
 unfoldable pub formCause : Day → ℤ → Bool → Bool → ℕ
@@ -43,18 +41,6 @@ filledLong n q m = eqb (length q) n && eqb (length m) n
 -- ---- causes 7 and 8, of which the call tests thresholds and prices
 unfoldable pub tableCause : Day → List ℤ → Bool → ℕ
 tableCause d t fit = unless (tableFit d t) 7 then unless fit 8
-
--- ---- causes 9 to 11, over a part
-unfoldable pub amountsCause : List ℤ → List ℤ → List ℤ → List ℤ → List ℤ → ℕ
-amountsCause p e x t i =
-    unless (allFit e x t i) 9
-    then unless (isZero (sumℤ i)) 10
-    then unless (every positionFit (befores p e x t i)) 11
-
--- what they count on, of a zone's part of a table
-pub record LentTable (zone : ℤ) (tb e x t i : List ℤ) : Type 0 where
-  pub long : length tb ≡ 256
-  pub lent : Lent (part zone tb) e x t i
 
 -- ---- causes 7 to 11 of an hour
 unfoldable pub hourRest : Day → List ℤ → HourTerms → List ℤ → List ℤ → List ℤ → List ℤ → ℕ

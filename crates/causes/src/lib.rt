@@ -10,7 +10,6 @@ use rules::ClosingTerms;
 use rules::Day;
 use rules::HourTerms;
 
-mod amounts;
 mod checks;
 
 // ---- opening and default thresholds

@@ -6,8 +6,8 @@ use Rattle.integers.specs.Lists.{every}
 use Rattle.rules.specs.Limits.{entryFit, exitFit, titleFit}
 use Rattle.positions.specs.Before.{allFit}
 use borrow.Author.Needs.{needs}
-use Rattle.causes.proofs.amounts.amounts_fit.Statement.{statement}
-use Rattle.causes.proofs.amounts.amounts_fit.Tie as tie
+use Rattle.amounts.proofs.amounts_fit.Statement.{statement}
+use Rattle.amounts.proofs.amounts_fit.Tie as tie
 
 -- the lists that passed
 entries : (c : tie.Else1) → every entryFit (c .before .before .args .entry .now) ≡ true

@@ -4,8 +4,8 @@ use Rattle.integers.proofs.Machine.{read, read-le, back}
 use Rattle.rules.specs.Limits.{entryMost, exitMost, titleMost, poolingMost, positionMost, positionFit}
 use Rattle.ranges.proofs.Checked.{tested}
 use borrow.Author.Needs.{needs}
-use Rattle.causes.proofs.amounts.before_fits.Statement.{statement}
-use Rattle.causes.proofs.amounts.before_fits.Tie as tie
+use Rattle.amounts.proofs.before_fits.Statement.{statement}
+use Rattle.amounts.proofs.before_fits.Tie as tie
 
 before-of-requires : tie.Need-before-of-requires
 before-of-requires c κs =

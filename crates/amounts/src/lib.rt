@@ -6,8 +6,7 @@ ghost use Rattle.integers.specs.Lists.{every};
 ghost use Rattle.rules.specs.Limits.{entryMost, exitMost, titleMost, poolingMost, positionMost, positionFit};
 ghost use Rattle.rules.specs.Days.{part};
 ghost use Rattle.positions.specs.Before.{allFit, befores, Lent, Amounts};
-ghost use Rattle.causes.specs.Steps.{amountsCause, LentTable};
-use crate::checks;
+ghost use Rattle.amounts.specs.Amounts.{amountsCause, LentTable};
 use ranges::limits::Entry;
 use ranges::limits::Exit;
 use ranges::limits::Pooling;
@@ -78,7 +77,10 @@ fn amounts_cause(part: &[i64], entry: &[i64], exit: &[i64], title: &[i64], pooli
     if !integers::is_zero(pooled) {
         return 10;
     }
-    checks::refusal(befores_fit(part, entry, exit, title, pooling), 11)
+    if !befores_fit(part, entry, exit, title, pooling) {
+        return 11;
+    }
+    0
 }
 
 // The same over the zone's part of the table.

@@ -13,8 +13,8 @@ use Rattle.positions.specs.Before.{beforeAt, befores}
 use Rattle.positions.proofs.Before.{few, length-befores, befores-at}
 use borrow.Author.Needs.{needs}
 use native.Mathlib.Omega.{arith}
-use Rattle.causes.proofs.amounts.befores_fit.Statement.{statement}
-use Rattle.causes.proofs.amounts.befores_fit.Tie as tie
+use Rattle.amounts.proofs.befores_fit.Statement.{statement}
+use Rattle.amounts.proofs.befores_fit.Tie as tie
 
 abbrev Inv-loop : tie.InvT-loop
 Inv-loop part entry exit title pooling fit₀ i₀ fit i =

@@ -1,18 +1,19 @@
 -- The causes in turn. Assumes nothing.
 use mathlib.Core.Path.{_≡_, sym, ap, _∙_}
-use mathlib.Core.Bool.{true}
+use mathlib.Core.Bool.{Bool, true}
 use borrow.Author.Tests.{not-true, not-false}
 use Rattle.integers.specs.Ranges.{isZero}
-use Rattle.integers.specs.Lists.{sumℤ}
+use Rattle.integers.specs.Lists.{sumℤ, every}
 use Rattle.integers.proofs.Machine.{back}
+use Rattle.rules.specs.Limits.{positionFit}
 use Rattle.rules.specs.Refusals.{unless, _then_}
-use Rattle.positions.specs.Before.{allFit, Amounts}
+use Rattle.positions.specs.Before.{allFit, befores, Amounts}
 use Rattle.positions.proofs.Before.{few}
-use Rattle.causes.specs.Steps.{amountsCause}
+use Rattle.amounts.specs.Amounts.{amountsCause}
 use borrow.Author.Needs.{needs}
 use native.Mathlib.Omega.{arith}
-use Rattle.causes.proofs.amounts.amounts_cause.Statement.{statement}
-use Rattle.causes.proofs.amounts.amounts_cause.Tie as tie
+use Rattle.amounts.proofs.amounts_cause.Statement.{statement}
+use Rattle.amounts.proofs.amounts_cause.Tie as tie
 
 -- no amount is out of range
 in-range : (c : tie.Else1)
@@ -47,8 +48,11 @@ returns-2 c = rw (in-range (c .before .before .before), sym (pooled (c .before))
 befores-fit-requires : tie.Need-befores-fit-requires
 befores-fit-requires c κs = lent (c .before .before .before)
 
-refusal-requires : tie.Need-refusal-requires
-refusal-requires c κs = search needs
+-- the test of the positions before
+standing : (c : tie.After-befores-fit) {b : Bool} → c .befores-fit .result ≡ b
+    → let a = c .before .before .before .before .before .before .args in
+    every positionFit (befores (a .part .now) (a .entry .now) (a .exit .now) (a .title .now) (a .pooling .now)) ≡ b
+standing c e = sym (c .befores-fit .ensures) ∙ e
 
 returns-3 : tie.Need-returns-3
 unfolding amountsCause unless _then_
@@ -57,8 +61,18 @@ returns-3 c =
     rw (
       in-range (d .before .before .before),
       sym (pooled (d .before)) ∙ not-false _ (d .if2 .left),
+      standing (c .before) (not-true _ (c .if3 .taken)),
     )
-    (rw (c .before .befores-fit .ensures) at (c .refusal .ensures))
+
+returns-4 : tie.Need-returns-4
+unfolding amountsCause unless _then_
+returns-4 c =
+    let d = c .before .before in
+    rw (
+      in-range (d .before .before .before),
+      sym (pooled (d .before)) ∙ not-false _ (d .if2 .left),
+      standing (c .before) (not-false _ (c .if3 .left)),
+    )
 
 pub amounts-cause-spec : {M : Type 1} → statement M
 amounts-cause-spec =
@@ -70,5 +84,5 @@ amounts-cause-spec =
     is-zero-requires
     returns-2
     befores-fit-requires
-    refusal-requires
-    returns-3)
+    returns-3
+    returns-4)

@@ -5,8 +5,8 @@ use Rattle.integers.specs.Ranges.{isZero}
 use Rattle.rules.specs.Days.{firstPlace, part}
 use Rattle.integers.proofs.Machine.{read}
 use borrow.Author.Needs.{needs}
-use Rattle.causes.proofs.amounts.zone_amounts_cause.Statement.{statement}
-use Rattle.causes.proofs.amounts.zone_amounts_cause.Tie as tie
+use Rattle.amounts.proofs.zone_amounts_cause.Statement.{statement}
+use Rattle.amounts.proofs.zone_amounts_cause.Tie as tie
 
 zone-h : (c : tie.Then1) → isZero (c .before .before .args .zone) ≡ true
 zone-h c = sym (rw (read (c .before .before .fits .zone)) at (c .before .is-zero .ensures)) ∙ c .if1 .taken

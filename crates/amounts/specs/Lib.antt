@@ -1,0 +1,2 @@
+-- Causes 9 to 11.
+pub mod Amounts
