@@ -5,7 +5,7 @@ import re
 import sys
 from pathlib import Path
 
-SOURCES = ["crates/rules/src/lib.rt", "crates/flat/src/day.rt", "crates/flat/src/lib.rt", "crates/gas_day_c/src/lib.rt"]
+SOURCES = ["crates/rules/src/lib.rt", "crates/record_c/src/lib.rt", "crates/flat/src/lib.rt", "crates/gas_day_c/src/lib.rt"]
 NUMBERS = {"i64": "int64_t", "u64": "uint64_t", "u8": "uint8_t"}
 STRUCTS = {
     "ZoneDayC": "gas_day_zone_day",

@@ -9,7 +9,8 @@ ghost use Rattle.largest_remainder.specs.Guarantees.{AddsUp, Accurate, NoMoreTh
 ghost use Rattle.rules.specs.Guarantees.{BeginsAtZero, AcceptedIfFit, Conservation, ClosedIsZero, ClosedIsMarked, Accuracy, OutcomeByThresholds, MarksAreCausers};
 ghost use Rattle.file_guarantees.specs.Guarantees.{ReadIfObeyed, FirstFaultDecides, AcceptedObeys, CauseGiven, SmallNumbers};
 ghost use Rattle.file_guarantees.specs.Examples.{ExamplesComputed, CaseA};
-ghost use Rattle.flat.specs.Guarantees.{RecordKept, OddMarkRefused};
+ghost use Rattle.record_c.specs.Guarantees.{RecordKept};
+ghost use Rattle.flat.specs.Guarantees.{OddMarkRefused};
 ghost use Rattle.text.specs.Examples.{DecimalsShown};
 ghost use Rattle.report.specs.Examples.{CaseAShown, RefusalShown};
 ghost use Rattle.cases.specs.Cases.{AllFigures};

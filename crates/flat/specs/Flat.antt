@@ -15,13 +15,13 @@ use Rattle.rules.specs.declared.ClosingAnswer.the-variants.{Refused as ClosingR
 use Rattle.rules.specs.Days.{newDay}
 use Rattle.allocation_file.specs.declared.FileAnswer.{FileAnswer}
 use Rattle.allocation_file.specs.declared.FileAnswer.the-variants.{Refused as FileRefused, Read}
-use Rattle.flat.specs.declared.day.DayC.{DayC}
+use Rattle.record_c.specs.declared.DayC.{DayC}
 use Rattle.flat.specs.declared.OpenC.{OpenC}
 use Rattle.flat.specs.declared.ThresholdsC.{ThresholdsC}
 use Rattle.flat.specs.declared.HourC.{HourC}
 use Rattle.flat.specs.declared.ClosingC.{ClosingC}
 use Rattle.flat.specs.declared.FileC.{FileC}
-use Rattle.flat.specs.Records.{dayForC}
+use Rattle.record_c.specs.Records.{dayForC}
 
 -- ---- opening: a refusal gives the record of no users
 

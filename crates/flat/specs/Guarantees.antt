@@ -1,18 +1,13 @@
--- What is proved of the record at the boundary to C. Statements only; the proofs are in proofs/Guarantees.antt, and the crate `certificate` asks for each. Assumes nothing.
+-- What is proved of the record at the boundary to C. A statement only; the proof is in proofs/Guarantees.antt, and the crate `certificate` asks for it. Assumes nothing.
 use mathlib.Core.Path.{_≡_}
-use mathlib.Core.Bool.{true, false}
+use mathlib.Core.Bool.{false}
 use mathlib.Core.List.{List}
 use lib.IntN.{ℤ}
-use Rattle.rules.specs.declared.Day.{Day}
 use Rattle.rules.specs.Hours.{Hour, Closing}
 use Rattle.rules.specs.Answers.{hourAnswer, closingAnswer}
-use Rattle.flat.specs.declared.day.DayC.{DayC}
-use Rattle.flat.specs.Records.{marksFit, dayForC, dayOf}
+use Rattle.record_c.specs.declared.DayC.{DayC}
+use Rattle.record_c.specs.Records.{marksFit, dayOf}
 use Rattle.flat.specs.Flat.{flatHour, refusedHour, flatClosing, refusedClosing}
-
--- "each gets the record that the last call returned": what a call answers to C is, given to the next one, the record of the rules; and no other record is taken for it.
-abbrev pub RecordKept : Type 0
-RecordKept = ((d : Day) → dayOf (dayForC d) ≡ d) × ((d : DayC) → marksFit d ≡ true → dayForC (dayOf d) ≡ d)
 
 -- A record in which `closed` is neither 0 nor 1 is turned away by 2, and comes back as it was given.
 abbrev pub OddMarkRefused : Type 0

@@ -1,4 +1,3 @@
--- The record and the answers as C holds them, and what is proved of the record.
-pub mod Records
+-- The answers as C holds them, and what is proved of a record that is refused.
 pub mod Flat
 pub mod Guarantees

@@ -3,16 +3,14 @@
 ghost use mathlib.Core.Path.{_≡_};
 ghost use Rattle.flat.specs.Flat.{flatOpen, flatThresholds, flatDone, flatHour, flatClosing, flatFile};
 use allocation_file::FileAnswer;
-use day::DayC;
-use day::ZoneDayC;
+use record_c::DayC;
+use record_c::ZoneDayC;
 use rules::ClosingAnswer;
 use rules::HourAnswer;
 use rules::OpenAnswer;
 use rules::Outcome;
 use rules::Side;
 use rules::ThresholdsAnswer;
-
-pub mod day;
 
 // ---- opening
 
@@ -39,7 +37,7 @@ pub fn flat_open(answer: OpenAnswer) -> OpenC
             OpenC { cause, day }
         }
         OpenAnswer::Opened(opened) => {
-            let day = day::day_for_c(opened);
+            let day = record_c::day_for_c(opened);
             OpenC { cause: 0, day }
         }
     }
@@ -136,7 +134,7 @@ pub fn flat_hour(day: DayC, answer: HourAnswer) -> HourC
         },
         HourAnswer::Done(done) => {
             let outcome = done.outcome;
-            flat_done(day::day_for_c(done.day), outcome)
+            flat_done(record_c::day_for_c(done.day), outcome)
         }
     }
 }
@@ -163,7 +161,7 @@ pub fn flat_closing(day: DayC, answer: ClosingAnswer) -> ClosingC
         },
         ClosingAnswer::Closed(done) => ClosingC {
             cause: 0,
-            day: day::day_for_c(done.day),
+            day: record_c::day_for_c(done.day),
             sold: done.sold,
             bought: done.bought,
         },

@@ -8,10 +8,10 @@ use Rattle.rules.specs.declared.HourAnswer.{HourAnswer}
 use Rattle.rules.specs.declared.ClosingAnswer.{ClosingAnswer}
 use Rattle.rules.specs.Hours.{Hour, Closing}
 use Rattle.rules.specs.Promises.{HourPromise, ClosingPromise}
-use Rattle.flat.specs.declared.day.DayC.{DayC}
+use Rattle.record_c.specs.declared.DayC.{DayC}
 use Rattle.flat.specs.declared.HourC.{HourC}
 use Rattle.flat.specs.declared.ClosingC.{ClosingC}
-use Rattle.flat.specs.Records.{dayOf}
+use Rattle.record_c.specs.Records.{dayOf}
 use Rattle.flat.specs.Flat.{flatHour, flatClosing}
 use Rattle.gas_day_c.specs.Promises.{HourForC, ClosingForC}
 

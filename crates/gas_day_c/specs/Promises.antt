@@ -7,12 +7,12 @@ use Rattle.rules.specs.Hours.{Hour, Closing}
 use Rattle.rules.specs.Answers.{openAnswer, openTable, hourAnswer, hourTable, hourQuantity, hourMoney, hourScratch}
 use Rattle.rules.specs.Answers.{closingAnswer, closingTable, closingQuantity, closingMoney}
 use Rattle.allocation_file.specs.File.{outcome, answerOf, listOf}
-use Rattle.flat.specs.declared.day.DayC.{DayC}
+use Rattle.record_c.specs.declared.DayC.{DayC}
 use Rattle.flat.specs.declared.OpenC.{OpenC}
 use Rattle.flat.specs.declared.HourC.{HourC}
 use Rattle.flat.specs.declared.ClosingC.{ClosingC}
 use Rattle.flat.specs.declared.FileC.{FileC}
-use Rattle.flat.specs.Records.{dayOf}
+use Rattle.record_c.specs.Records.{dayOf}
 use Rattle.flat.specs.Flat.{flatOpen, flatHour, flatClosing, flatFile}
 
 -- the interface's version

@@ -10,7 +10,7 @@ use flat::FileC;
 use flat::HourC;
 use flat::OpenC;
 use flat::ThresholdsC;
-use flat::day::DayC;
+use record_c::DayC;
 use rules::ClosingTerms;
 use rules::HourTerms;
 
@@ -66,7 +66,7 @@ pub extern "C" fn gas_day_settle_hour(
         ⌝ }
 {
     let answer = gas_day::settle_hour(
-        flat::day::day_of(day),
+        record_c::day_of(day),
         table,
         terms,
         entry,
@@ -96,7 +96,7 @@ pub extern "C" fn gas_day_close_zone(
         (now (table .exit)) (now (quantity .exit)) (now (money .exit)) r
         ⌝ }
 {
-    let answer = gas_day::close_zone(flat::day::day_of(day), table, terms, quantity, money);
+    let answer = gas_day::close_zone(record_c::day_of(day), table, terms, quantity, money);
     flat::flat_closing(day, answer)
 }
 

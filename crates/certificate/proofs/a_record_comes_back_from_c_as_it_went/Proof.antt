@@ -1,5 +1,5 @@
 -- Assumes nothing.
-use Rattle.flat.proofs.Guarantees.{record-kept}
+use Rattle.record_c.proofs.Guarantees.{record-kept}
 use Rattle.certificate.proofs.a_record_comes_back_from_c_as_it_went.Statement.{statement}
 use Rattle.certificate.proofs.a_record_comes_back_from_c_as_it_went.Tie as tie
 

@@ -1,6 +1,6 @@
 -- Case by case. Assumes nothing.
 use mathlib.Core.Path.{sym, ap}
-use Rattle.flat.specs.Records.{zoneForC, dayForC}
+use Rattle.record_c.specs.Records.{zoneForC, dayForC}
 use Rattle.flat.specs.Flat.{flatOpen}
 use Rattle.rules.specs.Days.{newDay}
 use borrow.Author.Needs.{needs}

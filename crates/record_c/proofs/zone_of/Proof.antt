@@ -1,9 +1,9 @@
 -- Field by field. Assumes nothing.
 use Rattle.integers.proofs.Machine.{back}
-use Rattle.flat.specs.Records.{zoneOf}
+use Rattle.record_c.specs.Records.{zoneOf}
 use borrow.Author.Needs.{needs}
-use Rattle.flat.proofs.day.zone_of.Statement.{statement}
-use Rattle.flat.proofs.day.zone_of.Tie as tie
+use Rattle.record_c.proofs.zone_of.Statement.{statement}
+use Rattle.record_c.proofs.zone_of.Tie as tie
 
 is-zero-requires : tie.Need-is-zero-requires
 is-zero-requires c κs = search needs

@@ -1,9 +1,9 @@
 -- Field by field. Assumes nothing.
 use Rattle.integers.proofs.Machine.{back}
-use Rattle.flat.specs.Records.{dayOf}
+use Rattle.record_c.specs.Records.{dayOf}
 use borrow.Author.Needs.{needs}
-use Rattle.flat.proofs.day.day_of.Statement.{statement}
-use Rattle.flat.proofs.day.day_of.Tie as tie
+use Rattle.record_c.proofs.day_of.Statement.{statement}
+use Rattle.record_c.proofs.day_of.Tie as tie
 
 users-of-requires : tie.Need-users-of-requires
 users-of-requires c κs = search needs

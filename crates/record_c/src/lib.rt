@@ -2,7 +2,7 @@
 ghost use mathlib.Core.Path.{_≡_};
 ghost use lib.IntN.{pos};
 ghost use Rattle.integers.specs.Lists.{bit};
-ghost use Rattle.flat.specs.Records.{zoneForC, dayForC, markFits, usersOf, zoneOf, dayOf};
+ghost use Rattle.record_c.specs.Records.{zoneForC, dayForC, markFits, usersOf, zoneOf, dayOf};
 use rules::Day;
 use rules::ZoneDay;
 

@@ -2,8 +2,8 @@
 use mathlib.Core.Path.{sym, ap}
 use lib.IntN.{pos}
 use Rattle.integers.specs.Lists.{bit}
-use Rattle.flat.proofs.day.mark.Statement.{statement}
-use Rattle.flat.proofs.day.mark.Tie as tie
+use Rattle.record_c.proofs.mark.Statement.{statement}
+use Rattle.record_c.proofs.mark.Tie as tie
 
 returns : tie.Need-returns
 returns c = sym (ap (λ b. pos (bit b)) (c .if1 .taken))

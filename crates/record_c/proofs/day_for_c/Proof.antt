@@ -1,9 +1,9 @@
 -- Field by field. Assumes nothing.
 use Rattle.integers.proofs.Machine.{back}
-use Rattle.flat.specs.Records.{dayForC}
+use Rattle.record_c.specs.Records.{dayForC}
 use borrow.Author.Needs.{needs}
-use Rattle.flat.proofs.day.day_for_c.Statement.{statement}
-use Rattle.flat.proofs.day.day_for_c.Tie as tie
+use Rattle.record_c.proofs.day_for_c.Statement.{statement}
+use Rattle.record_c.proofs.day_for_c.Tie as tie
 
 zone-for-c-requires : tie.Need-zone-for-c-requires
 zone-for-c-requires c κs = search needs

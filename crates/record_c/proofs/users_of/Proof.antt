@@ -2,10 +2,10 @@
 use mathlib.Core.Path.{_≡_, sym, ap₂, _∙_}
 use mathlib.Core.Bool.{Bool, _&&_}
 use Rattle.integers.proofs.Machine.{back}
-use Rattle.flat.specs.Records.{marksFit, usersOf}
+use Rattle.record_c.specs.Records.{marksFit, usersOf}
 use borrow.Author.Needs.{needs}
-use Rattle.flat.proofs.day.users_of.Statement.{statement}
-use Rattle.flat.proofs.day.users_of.Tie as tie
+use Rattle.record_c.proofs.users_of.Statement.{statement}
+use Rattle.record_c.proofs.users_of.Tie as tie
 
 tested : (c : tie.After-both) {b : Bool} → c .both .result ≡ b → marksFit (c .before .before .before .args .day) ≡ b
 unfolding marksFit

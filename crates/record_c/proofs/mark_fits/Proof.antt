@@ -1,9 +1,9 @@
 -- The test of the mark. Assumes nothing.
 use Rattle.integers.proofs.Machine.{back}
-use Rattle.flat.specs.Records.{markFits}
+use Rattle.record_c.specs.Records.{markFits}
 use borrow.Author.Needs.{needs}
-use Rattle.flat.proofs.day.mark_fits.Statement.{statement}
-use Rattle.flat.proofs.day.mark_fits.Tie as tie
+use Rattle.record_c.proofs.mark_fits.Statement.{statement}
+use Rattle.record_c.proofs.mark_fits.Tie as tie
 
 within-requires : tie.Need-within-requires
 within-requires c κs = search needs

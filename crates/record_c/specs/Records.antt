@@ -5,8 +5,8 @@ use Rattle.integers.specs.Ranges.{inRange, isZero}
 use Rattle.integers.specs.Lists.{bit}
 use Rattle.rules.specs.declared.Day.{Day}
 use Rattle.rules.specs.declared.ZoneDay.{ZoneDay}
-use Rattle.flat.specs.declared.day.DayC.{DayC}
-use Rattle.flat.specs.declared.day.ZoneDayC.{ZoneDayC}
+use Rattle.record_c.specs.declared.DayC.{DayC}
+use Rattle.record_c.specs.declared.ZoneDayC.{ZoneDayC}
 
 -- ---- a record that a call answers
 unfoldable pub zoneForC : ZoneDay → ZoneDayC

@@ -1,9 +1,9 @@
 -- Field by field. Assumes nothing.
 use Rattle.integers.proofs.Machine.{back}
-use Rattle.flat.specs.Records.{zoneForC}
+use Rattle.record_c.specs.Records.{zoneForC}
 use borrow.Author.Needs.{needs}
-use Rattle.flat.proofs.day.zone_for_c.Statement.{statement}
-use Rattle.flat.proofs.day.zone_for_c.Tie as tie
+use Rattle.record_c.proofs.zone_for_c.Statement.{statement}
+use Rattle.record_c.proofs.zone_for_c.Tie as tie
 
 mark-requires : tie.Need-mark-requires
 mark-requires c κs = search needs

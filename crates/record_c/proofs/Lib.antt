@@ -1,0 +1,2 @@
+-- What is proved of the record at the boundary to C.
+pub mod Guarantees
