@@ -13,7 +13,15 @@ returns c =
     let s = zones .before .before .before .args in
     let users-a = back (s .a .users) (told .before .struct-told .given .0 .1) in
     let users-b = back (s .b .users) (told .struct-told2 .given .0 .1) in
-    simp (c .both2 .ensures, c .before .equal .ensures, zones .both .ensures, zones .before .same-zone2 .ensures, zones .before .before .same-zone .ensures, users-a, users-b)
+    simp (
+      c .both2 .ensures,
+      c .before .equal .ensures,
+      zones .both .ensures,
+      zones .before .same-zone2 .ensures,
+      zones .before .before .same-zone .ensures,
+      users-a,
+      users-b,
+    )
 
 pub same-day-spec : {M : Type 1} → statement M
 same-day-spec =

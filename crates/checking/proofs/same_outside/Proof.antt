@@ -9,7 +9,17 @@ unfolding sameOutside
 returns c =
     let r = c .before in
     let f = r .before .before .before .before .before in
-    simp (c .both .ensures, r .same-list2 .ensures, r .before .rest4 .ensures, r .before .before .rest3 .ensures, r .before .before .before .rest2 .ensures, r .before .before .before .before .rest .ensures, f .same-list .ensures, f .before .first2 .ensures, f .before .before .first .ensures)
+    simp (
+      c .both .ensures,
+      r .same-list2 .ensures,
+      r .before .rest4 .ensures,
+      r .before .before .rest3 .ensures,
+      r .before .before .before .rest2 .ensures,
+      r .before .before .before .before .rest .ensures,
+      f .same-list .ensures,
+      f .before .first2 .ensures,
+      f .before .before .first .ensures,
+    )
 
 pub same-outside-spec : {M : Type 1} → statement M
 same-outside-spec =

@@ -32,8 +32,15 @@ loop-again c =
     let h : l .i < length o = omega (arith, l .inv .1 .long) in
     let long = added-long o more in
     let was = written-elem (added o more) o (l .sums) (l .i) (l .inv .1) long (pos 0) h in
-    let is = rw (back (getD (l .sums) (l .i) (pos 0)) (c .before .before .plus-arg .given), was, back (c .before .at .result) (c .before .at .ok), c .before .at .ensures) at (c .plus .ensures) in
-    (omega arith, written-next (added o more) o (l .sums) (l .i) (l .inv .1) long (pos 0) _ h (back (c .plus .result) (c .plus .ok) ∙ is ∙ sym (added-at o more (l .i) h)))
+    let is = rw (
+      back (getD (l .sums) (l .i) (pos 0)) (c .before .before .plus-arg .given),
+      was,
+      back (c .before .at .result) (c .before .at .ok),
+      c .before .at .ensures,
+    ) at (c .plus .ensures) in (
+      omega arith,
+      written-next (added o more) o (l .sums) (l .i) (l .inv .1) long (pos 0) _ h (back (c .plus .result) (c .plus .ok) ∙ is ∙ sym (added-at o more (l .i) h)),
+    )
 
 same-length : tie.Need-same-length Inv-loop μ-loop
 same-length c = c .before .loop .inv .1 .long

@@ -7,7 +7,11 @@ use Rattle.checking.proofs.sums.plus.Statement.{statement}
 use Rattle.checking.proofs.sums.plus.Tie as tie
 
 add-result : tie.Need-add-result
-add-result c = near-fits _ _ (rw (c .before .before .before .near .ensures, c .before .before .near2 .ensures) at (sym (c .before .both .ensures) ∙ c .if1 .taken))
+add-result c =
+    near-fits _ _ (rw (
+      c .before .before .before .near .ensures,
+      c .before .before .near2 .ensures,
+    ) at (sym (c .before .both .ensures) ∙ c .if1 .taken))
 
 returns : tie.Need-returns
 returns c =
@@ -18,7 +22,10 @@ returns c =
 returns-2 : tie.Need-returns-2
 returns-2 c =
     let f = c .before .before .before .before .fits in
-    sym (plus-far _ _ (rw (read (f .a), read (f .b)) at (rw (c .before .before .before .near .ensures, c .before .before .near2 .ensures) at (sym (c .before .both .ensures) ∙ c .if1 .left))))
+    sym (plus-far _ _ (rw (read (f .a), read (f .b)) at (rw (
+      c .before .before .before .near .ensures,
+      c .before .before .near2 .ensures,
+    ) at (sym (c .before .both .ensures) ∙ c .if1 .left))))
 
 pub plus-spec : {M : Type 1} → statement M
 plus-spec =
