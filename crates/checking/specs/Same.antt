@@ -1,10 +1,10 @@
--- Two lists, a list outside of a run of places, and two day records, compared. Assumes nothing.
+-- Two lists, a list outside of a run of places, and two day records, compared; and the mark of what was found. Assumes nothing.
 use mathlib.Core.Bool.{Bool, true, false, cond, not, _&&_}
 use mathlib.Core.List.{List, [], _∷_}
 use Prim.Native.Nat.{ℕ}
 use lib.IntN.{ℤ}
 use lib.ListN.{take, drop}
-use Rattle.integers.specs.Ranges.{equal}
+use Rattle.integers.specs.Ranges.{equal, isZero}
 use Rattle.rules.specs.declared.Day.{Day}
 use Rattle.rules.specs.declared.ZoneDay.{ZoneDay}
 
@@ -28,3 +28,11 @@ sameZone a b = equal (a .hours) (b .hours) && sameTest (a .closed) (b .closed)
 
 unfoldable pub sameDay : Day → Day → Bool
 sameDay a b = equal (a .users) (b .users) && (sameZone (a .h) (b .h) && sameZone (a .l) (b .l))
+
+-- what stands before the words of a comparison: a comma, then a blank where it holds and a `!` where it does not
+unfoldable pub markOf : Bool → List ℕ
+markOf holds = 44 ∷ cond holds 32 33 ∷ []
+
+-- a zone's part of the record by its numbers: closed where the second is not 0
+unfoldable pub zoneBy : ℤ → ℤ → ZoneDay
+zoneBy hours closed = record { hours = hours; closed = not (isZero closed) }

@@ -6,7 +6,7 @@ ghost use lib.Dec.{eqb};
 ghost use lib.ListN.{getD, set, take, drop};
 ghost use Rattle.integers.specs.Lists.{every};
 ghost use Rattle.integers.specs.Ranges.{equal};
-ghost use Rattle.checking.specs.Same.{sameList, sameOutside, sameTest, sameZone, sameDay};
+ghost use Rattle.checking.specs.Same.{sameList, sameOutside, sameTest, sameZone, sameDay, markOf, zoneBy};
 use integers::both;
 use integers::equal;
 use rules::Day;
@@ -68,21 +68,42 @@ pub fn put(list: &mut [i64], place: usize, value: i64)
     }
 }
 
-// The `n` places from a place on, to be lent on; the whole list if it has fewer. And the first places of a scratch.
-pub fn lent(list: &mut [i64], from: usize, n: usize) -> &mut [i64] {
-    if from <= list.len() {
-        if n <= list.len() - from {
-            return &mut list[from..from + n];
-        }
+// The same parts of what is lent to be written: the numbers from a place on, the first of them, and both; and the first places of a scratch.
+fn rest_lent(list: &mut [i64], from: usize) -> &mut [i64]
+    ensures { λ r. ⌜ now r ≡ drop from (now (list .entry)) ⌝ }
+{
+    let n = list.len();
+    if from < n {
+        &mut list[from..n]
+    } else {
+        &mut list[n..n]
     }
-    list
 }
 
-pub fn lent_scratch(scratch: &mut [u64], n: usize) -> &mut [u64] {
-    if n <= scratch.len() {
-        return &mut scratch[0..n];
+fn first_lent(list: &mut [i64], n: usize) -> &mut [i64]
+    ensures { λ r. ⌜ now r ≡ take n (now (list .entry)) ⌝ }
+{
+    if n < list.len() {
+        &mut list[0..n]
+    } else {
+        list
     }
-    scratch
+}
+
+pub fn lent(list: &mut [i64], from: usize, n: usize) -> &mut [i64]
+    ensures { λ r. ⌜ now r ≡ take n (drop from (now (list .entry))) ⌝ }
+{
+    first_lent(rest_lent(list, from), n)
+}
+
+pub fn lent_scratch(scratch: &mut [u64], n: usize) -> &mut [u64]
+    ensures { λ r. ⌜ now r ≡ take n (now (scratch .entry)) ⌝ }
+{
+    if n < scratch.len() {
+        &mut scratch[0..n]
+    } else {
+        scratch
+    }
 }
 
 // ---- comparisons
@@ -149,22 +170,39 @@ pub fn same_day(a: Day, b: Day) -> bool
     both(equal(a.users, b.users), zones)
 }
 
-// ---- the record and the table by numbers
+// ---- the record by numbers
 
 // A zone is closed where its number is not 0.
-pub fn day_of(users: i64, h_hours: i64, h_closed: i64, l_hours: i64, l_closed: i64) -> Day {
-    let h = ZoneDay {
-        hours: h_hours,
-        closed: h_closed != 0,
-    };
-    let l = ZoneDay {
-        hours: l_hours,
-        closed: l_closed != 0,
-    };
-    Day { users, h, l }
+fn zone_of(hours: i64, closed: i64) -> ZoneDay
+    ensures { λ r. ⌜ r ≡ zoneBy hours closed ⌝ }
+{
+    ZoneDay {
+        hours,
+        closed: !integers::is_zero(closed),
+    }
 }
 
-// Where a zone's part of the table begins.
-pub fn first_place(zone: i64) -> usize {
-    if zone == 0 { 0 } else { 128 }
+pub fn day_of(users: i64, h_hours: i64, h_closed: i64, l_hours: i64, l_closed: i64) -> Day
+    ensures { λ r. ⌜
+        r ≡ record {
+          users = users;
+          h = zoneBy «h_hours» «h_closed»;
+          l = zoneBy «l_hours» «l_closed»;
+        }
+        ⌝ }
+{
+    Day {
+        users,
+        h: zone_of(h_hours, h_closed),
+        l: zone_of(l_hours, l_closed),
+    }
+}
+
+// ---- what was found
+
+// The two bytes before the words of a comparison. Every line that the programs are compared with has the blank, so that only this contract shows that a `!` can come.
+pub fn mark(holds: bool) -> [u8; 2]
+    ensures { λ r. ⌜ r ≡ markOf holds ⌝ }
+{
+    [b',', if holds { b' ' } else { b'!' }]
 }

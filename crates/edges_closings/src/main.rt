@@ -158,7 +158,7 @@ fn say_closed(
     quantity: &[i64],
     money: &[i64],
 ) {
-    let start = checking::first_place(at(row, 5));
+    let start = places::first_place(at(row, 5));
     printing::say(b": closed, ");
     printing::say_day(done.day);
     let numbers = [

@@ -168,7 +168,7 @@ fn conserved(sheet: &[i64], before: &[i64], quantity: &[i64], after: &[i64]) -> 
 
 // User 0's quantity, money and place after; and what is compared.
 fn say_lists(sheet: &[i64], table: &[i64], quantity: &[i64], money: &[i64]) {
-    let start = checking::first_place(number(sheet, rows::ZONE));
+    let start = places::first_place(number(sheet, rows::ZONE));
     let n = users(sheet);
     let numbers = [at(quantity, 0), at(money, 0), at(table, start)];
     printing::say_row(b", quantity |, money |, after ", &numbers);
@@ -291,10 +291,18 @@ fn hours_alone() {
     }
 }
 
+fn together(i: usize) -> [i64; 8] {
+    if i < 37 {
+        rows::EARLY[i]
+    } else {
+        rows::LATE[(i - 37) % 30]
+    }
+}
+
 fn hours_together() {
     let mut i: usize = 0;
     while i < 67 {
-        hour(rows::together(i));
+        hour(together(i));
         i += 1;
     }
 }

@@ -131,7 +131,7 @@ pub const ALONE: [[i64; 7]; 41] = [
 ];
 
 // Several changes at once, up to four, then zeros. With an exit of -14 what is added to user 0's place is 0; with one of -19 its position is what it pools.
-const EARLY: [[i64; 8]; 37] = [
+pub const EARLY: [[i64; 8]; 37] = [
     // 2: hours and closed zones of the record
     [H_HOURS, 23, H_CLOSED, 1, 0, 0, 0, 0],
     [L_HOURS, 23, L_CLOSED, 1, 0, 0, 0, 0],
@@ -179,7 +179,7 @@ const EARLY: [[i64; 8]; 37] = [
     [TABLE + 3, 1, UPPER, -1, 0, 0, 0, 0],
 ];
 
-const LATE: [[i64; 8]; 30] = [
+pub const LATE: [[i64; 8]; 30] = [
     // 8: prices, in an excess of 60 and in a shortfall of 939
     [EXCESS_PRICE, PRICE, UPPER, 0, 0, 0, 0, 0],
     [EXCESS_PRICE, -PRICE, UPPER, 0, 0, 0, 0, 0],
@@ -225,11 +225,3 @@ const LATE: [[i64; 8]; 30] = [
     [USERS, 128, UPPER, 0, LOWER, 0, EXIT + 127, -60],
     [USERS, 128, LOWER, 0, EXIT + 63, -60, EXIT + 64, -40],
 ];
-
-pub fn together(i: usize) -> [i64; 8] {
-    if i < 37 {
-        EARLY[i]
-    } else {
-        LATE[(i - 37) % 30]
-    }
-}

@@ -1,7 +1,6 @@
 // The text of an hour that is settled as the first of a day opened for it, with January's default thresholds, or the one line of a refusal.
 ghost use mathlib.Core.Path.{_≡_};
 ghost use lib.ListN.{take};
-ghost use Rattle.rules.specs.Days.{firstPlace};
 ghost use Rattle.rules.specs.Hours.{hourGiven};
 ghost use Rattle.rules.specs.Answers.{hourNumber};
 ghost use Rattle.text.specs.Puts.{Put};
@@ -25,13 +24,6 @@ const MONTH: i64 = 1;
 const EXCESS_PRICE: i64 = 20_000;
 
 const SHORTFALL_PRICE: i64 = 25_000;
-
-// Where a zone's part of the table begins.
-fn first_place(zone: i64) -> usize
-    ensures { λ r. ⌜ r ≡ firstPlace zone ⌝ }
-{
-    if integers::is_zero(zone) { 0 } else { 128 }
-}
 
 // A position before settlement is the quantity plus the position after.
 fn add_quantities(quantity: &[i64], after: &[i64], before: &mut [i64])
@@ -61,7 +53,7 @@ fn settled_text(
         (now (out .exit)) r
         ⌝ }
 {
-    let start = first_place(zone);
+    let start = places::first_place(zone);
     let end = start + quantity.len();
     let after = &table[start..end];
     add_quantities(quantity, after, before);

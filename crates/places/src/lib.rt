@@ -4,10 +4,18 @@ ghost use Prim.Native.Nat.{_≤_};
 ghost use lib.ListN.{length};
 ghost use Rattle.integers.specs.Ranges.{isZero};
 ghost use Rattle.integers.specs.Lists.{every};
+ghost use Rattle.rules.specs.Days.{firstPlace};
 ghost use Rattle.rules.specs.Causes.{tableFit};
 ghost use Rattle.places.specs.Live.{livePlaces, partFit, Tabled};
 use ranges::limits::Position;
 use rules::Day;
+
+// Where a zone's part of the table begins.
+pub fn first_place(zone: i64) -> usize
+    ensures { λ r. ⌜ r ≡ firstPlace zone ⌝ }
+{
+    if integers::is_zero(zone) { 0 } else { 128 }
+}
 
 // How many places of a zone may be other than zero.
 fn live_places(zone: i64, day: Day) -> usize

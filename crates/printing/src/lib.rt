@@ -1,5 +1,6 @@
-// The words and numbers that the test programs print. What is written to standard output stands outside the contracts: those of the kit's io say nothing of it. What was
-// compared is in `checking`.
+// The words and numbers that the test programs print. No function here answers anything or is lent anything to write, so there is nothing for a contract to fix: what is
+// written to standard output stands outside (the contracts of the kit's io say nothing of it). A wrong word or number is seen, since every line is compared with the file
+// `stdout`. Not so a comparison that is always said to hold: what was compared and how it is marked are in `checking`, with contracts.
 use libc::STDOUT_FILENO;
 use rules::Day;
 use rules::Refusal;
@@ -73,23 +74,15 @@ pub fn say_row(names: &[u8], row: &[i64]) {
 
 // ---- verdicts
 
-// ", " and the words, with the verdict of a comparison.
-pub fn say_kept(words: &[u8], kept: bool) {
-    say(b", ");
+// The words of a comparison after its mark, which alone says whether it holds: nothing here chooses.
+pub fn say_holds(words: &[u8], holds: bool) {
+    say(&checking::mark(holds));
     say(words);
-    if kept {
-        say(b" kept");
-    } else {
-        say(b" CHANGED");
-    }
 }
 
-pub fn say_holds(words: &[u8], holds: bool) {
-    say(b", ");
-    if !holds {
-        say(b"NOT ");
-    }
-    say(words);
+pub fn say_kept(words: &[u8], kept: bool) {
+    say_holds(words, kept);
+    say(b" kept");
 }
 
 // What was lent to a call that turned it away.

@@ -4,8 +4,8 @@ use Prim.Native.Nat.{_-_}
 use lib.ListN.{length}
 use native.Mathlib.Omega.{arith}
 use borrow.Author.Needs.{needs}
-use Rattle.edges_files.proofs.file.put_all.Statement.{statement}
-use Rattle.edges_files.proofs.file.put_all.Tie as tie
+use Rattle.edges_files.proofs.put_all.Statement.{statement}
+use Rattle.edges_files.proofs.put_all.Tie as tie
 
 abbrev Inv-loop : tie.InvT-loop
 Inv-loop file₀ from bytes end₀ i₀ file end i = length file ≡ length file₀

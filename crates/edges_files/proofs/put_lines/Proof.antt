@@ -4,8 +4,8 @@ use Prim.Native.Nat.{_-_}
 use lib.ListN.{length}
 use native.Mathlib.Omega.{arith}
 use borrow.Author.Needs.{needs}
-use Rattle.edges_files.proofs.file.put_lines.Statement.{statement}
-use Rattle.edges_files.proofs.file.put_lines.Tie as tie
+use Rattle.edges_files.proofs.put_lines.Statement.{statement}
+use Rattle.edges_files.proofs.put_lines.Tie as tie
 
 abbrev Inv-loop : tie.InvT-loop
 Inv-loop file₀ from lines row end₀ place₀ file end place = length file ≡ length file₀

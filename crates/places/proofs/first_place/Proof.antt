@@ -3,8 +3,8 @@ use mathlib.Core.Path.{_∙_, sym}
 use borrow.Author.Needs.{needs}
 use Rattle.integers.proofs.Machine.{read}
 use Rattle.rules.specs.Days.{firstPlace}
-use Rattle.hour_text.proofs.first_place.Statement.{statement}
-use Rattle.hour_text.proofs.first_place.Tie as tie
+use Rattle.places.proofs.first_place.Statement.{statement}
+use Rattle.places.proofs.first_place.Tie as tie
 
 is-zero-requires : tie.Need-is-zero-requires
 is-zero-requires c κs = search needs
