@@ -1,5 +1,5 @@
-/* Reads an hour's file of at most 65,536 bytes from standard input, settles its hour with January's default thresholds, and prints the positions after. A refusal
- * prints its cause and ends with status 1; a longer input is refused by 14. */
+/* Reads an hour's file of at most 65,536 bytes from standard input, settles its hour with January's default thresholds, and prints each user's place, position before,
+ * quantity, money and position after. A refusal prints its cause and ends with status 1; a longer input is refused by 14. */
 #include "gas_day.h"
 
 #include <inttypes.h>

@@ -1,6 +1,6 @@
 /* The Gas Day for C: opening, default thresholds, an hour's settlement, a zone's closing, and the reader of an hour's file.
  *
- * Link with target/staticlib/libgas_day_c.a, which `rt staticlib gas_day_c` makes.
+ * Link with libgas_day.a, or with libgas_day.so, which bindings/build makes and puts where it says; `pkg-config gas_day` names the flags.
  *
  * Every call answers a cause: 0, and then the answer and every lent area are what the rules name; or the number of the first cause that applies, and then every
  * lent area is as it was, the record is the one given, and the other values are 0. A call returns for every input. It keeps no pointer and no state, so calls may
@@ -46,17 +46,18 @@ uint64_t gas_day_version(void);
 #define GAS_DAY_THRESHOLD_MOST INT64_C(1000000000) /* upper: 0 to this; lower: minus this to 0 */
 #define GAS_DAY_PRICE_MOST INT64_C(10000000)       /* of either sign */
 
-/* ---- causes: the first that applies, in the order of their numbers */
+/* ---- causes: the first that applies, in the order of their numbers. The words are the requirements' */
 
 enum {
     GAS_DAY_ACCEPTED = 0,
     GAS_DAY_CAUSE_USERS = 1,        /* opening: user count not 1 to 128 */
-    GAS_DAY_CAUSE_RECORD = 2,       /* record's user count not 1 to 128, hours not 0 to 24, a zone closed with fewer than 24, or `closed` not 0 or 1 */
+    GAS_DAY_CAUSE_RECORD = 2,       /* record's user count not 1 to 128, hours not 0 to 24, or a zone closed with fewer than 24 */
     GAS_DAY_CAUSE_LENGTH = 3,       /* table not of 256 places, or a list or the scratch not of exactly the user count */
     GAS_DAY_CAUSE_ZONE = 4,         /* zone not 0 or 1 */
     GAS_DAY_CAUSE_CLOSED = 5,       /* zone closed */
     GAS_DAY_CAUSE_HOUR = 6,         /* hour is not hours done plus 1, or above 24; at closing, hours done below 24 */
-    GAS_DAY_CAUSE_TABLE = 7,        /* a position outside its range, or a place that has to be zero and is not */
+    GAS_DAY_CAUSE_TABLE = 7,        /* table holds a position outside its range, a non-zero place at or beyond the user count in either zone,
+                                     * or a non-zero place in a zone that is closed or has no hours done */
     GAS_DAY_CAUSE_TERMS = 8,        /* threshold or price out of range; month not 1 to 12 */
     GAS_DAY_CAUSE_AMOUNT = 9,       /* an amount out of range */
     GAS_DAY_CAUSE_POOLING = 10,     /* pooling amounts do not add to zero */
@@ -73,7 +74,7 @@ enum {
 
 typedef struct {
     int64_t hours;  /* done, 0 to 24 */
-    int64_t closed; /* 0 or 1 */
+    int64_t closed; /* 0 or 1; a record with another number is refused by cause 2 */
 } gas_day_zone_day;
 
 typedef struct {

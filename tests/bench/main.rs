@@ -1,7 +1,7 @@
-//! Hours of 128 users through the library and through the ordinary settlement, in turn, in one run: nanoseconds an hour, and the ratio, by kind of input. The
-//! table is restored before each hour, for both.
+//! Hours of 128 users through the library, as a client calls it from Rust, and through the ordinary settlement, in turn, in one run: nanoseconds an hour, and the
+//! ratio, by kind of input. The table is restored before each hour, for both.
 
-use library::{Day, HourTerms, ZoneDay};
+use gas_day::{Amounts, Day, HourTerms, Outputs, ZoneDay};
 use ordinary::made_up::{self, Kind};
 use ordinary::random::Random;
 use std::time::Instant;
@@ -32,7 +32,7 @@ struct Lent {
 
 fn library_hour(input: &Input, lent: &mut Lent) -> u64 {
     let terms = input.hour.terms;
-    let day = Day {
+    let mut day = Day {
         users: input.users,
         h: ZoneDay {
             hours: 1,
@@ -51,19 +51,18 @@ fn library_hour(input: &Input, lent: &mut Lent) -> u64 {
         excess_price: terms.excess_price,
         shortfall_price: terms.shortfall_price,
     };
-    library::settle_hour(
-        day,
-        &mut lent.table,
-        terms,
-        &input.hour.entry,
-        &input.hour.exit,
-        &input.hour.title,
-        &input.hour.pooling,
-        &mut lent.quantity,
-        &mut lent.money,
-        &mut lent.scratch,
-    )
-    .cause
+    let amounts = Amounts {
+        entry: &input.hour.entry,
+        exit: &input.hour.exit,
+        title: &input.hour.title,
+        pooling: &input.hour.pooling,
+    };
+    let outputs = Outputs {
+        quantity: &mut lent.quantity,
+        money: &mut lent.money,
+    };
+    let answer = gas_day::settle_hour(&mut day, &mut lent.table, terms, amounts, outputs, &mut lent.scratch);
+    answer.map_or_else(|cause| cause.number(), |_| 0)
 }
 
 fn ordinary_hour(input: &Input, lent: &mut Lent) -> u64 {

@@ -2,7 +2,7 @@
 //! lent. A difference ends the run with where it came up and what was given. Every call is counted, by its cause and, if it is an accepted hour, by its side.
 
 use crate::counts::Counts;
-use library::{ClosingTerms, Day, HourTerms, ZoneDay};
+use gas_day::{Amounts, Cause, ClosingTerms, Day, HourTerms, FileLists, Outputs, ZoneDay};
 use ordinary::spoilt::Call;
 use ordinary::{Outcome, Side, Terms};
 
@@ -31,13 +31,6 @@ fn as_ordinary(day: Day) -> ordinary::Day {
         closed: [day.h.closed, day.l.closed],
     }
 }
-
-/// The record that a refused opening answers: "the other values are 0".
-const NO_DAY: ordinary::Day = ordinary::Day {
-    users: 0,
-    hours: [0; 2],
-    closed: [0; 2],
-};
 
 /// Of an hour: cause, side (0 within, 1 excess, 2 shortfall), total, the two words of marks, and their number.
 type HourAnswer = (u64, u64, i64, u64, u64, u64);
@@ -91,27 +84,31 @@ fn library_hour(call: &mut Call) -> HourAnswer {
         excess_price,
         shortfall_price,
     };
-    let answer = library::settle_hour(
-        as_library(call.day),
-        &mut call.table,
-        terms,
-        &call.amounts.entry,
-        &call.amounts.exit,
-        &call.amounts.title,
-        &call.amounts.pooling,
-        &mut call.quantity,
-        &mut call.money,
-        &mut call.scratch,
-    );
-    call.day = as_ordinary(answer.day);
-    (
-        answer.cause,
-        answer.side,
-        answer.total,
-        answer.first,
-        answer.second,
-        answer.number,
-    )
+    let amounts = Amounts {
+        entry: &call.amounts.entry,
+        exit: &call.amounts.exit,
+        title: &call.amounts.title,
+        pooling: &call.amounts.pooling,
+    };
+    let outputs = Outputs {
+        quantity: &mut call.quantity,
+        money: &mut call.money,
+    };
+    let mut day = as_library(call.day);
+    let answer = gas_day::settle_hour(&mut day, &mut call.table, terms, amounts, outputs, &mut call.scratch);
+    call.day = as_ordinary(day);
+    match answer {
+        Err(cause) => (cause.number(), 0, 0, 0, 0, 0),
+        Ok(gas_day::Outcome::Within) => (0, 0, 0, 0, 0, 0),
+        Ok(gas_day::Outcome::Settled {
+            side,
+            total,
+            causers,
+        }) => {
+            let side = if side == gas_day::Side::Excess { 1 } else { 2 };
+            (0, side, total, causers.first, causers.second, causers.number)
+        }
+    }
 }
 
 /// Of a closing: cause, sold and bought.
@@ -142,15 +139,14 @@ fn library_closing(call: &mut Call) -> ClosingAnswer {
         excess_price: call.amounts.terms.excess_price,
         shortfall_price: call.amounts.terms.shortfall_price,
     };
-    let answer = library::close_zone(
-        as_library(call.day),
-        &mut call.table,
-        terms,
-        &mut call.quantity,
-        &mut call.money,
-    );
-    call.day = as_ordinary(answer.day);
-    (answer.cause, answer.sold, answer.bought)
+    let outputs = Outputs {
+        quantity: &mut call.quantity,
+        money: &mut call.money,
+    };
+    let mut day = as_library(call.day);
+    let answer = gas_day::close_zone(&mut day, &mut call.table, terms, outputs);
+    call.day = as_ordinary(day);
+    answer.map_or_else(|cause| (cause.number(), 0, 0), |closed| (0, closed.sold, closed.bought))
 }
 
 impl Run {
@@ -193,25 +189,22 @@ impl Run {
         let before: Vec<i64> = (0..places as i64).map(|place| place - 7).collect();
         let (mut table, mut other) = (before.clone(), before.clone());
         let answer = ordinary::open(users, &mut other);
-        let expected = (answer.err().unwrap_or(0), answer.unwrap_or(NO_DAY));
-        let opened = library::open(users, &mut table);
-        let found = (opened.cause, as_ordinary(opened.day));
-        assert_eq!((found, &table), (expected, &other), "{}: an opening for {users} users differs", self.at);
-        assert!(found.0 == 0 || table == before, "{}: a refused opening changed the table", self.at);
-        self.counts.call("openings by cause", found.0);
+        let found = gas_day::open(users, &mut table).map(as_ordinary).map_err(Cause::number);
+        assert_eq!((found, &table), (answer, &other), "{}: an opening for {users} users differs", self.at);
+        assert!(found.is_ok() || table == before, "{}: a refused opening changed the table", self.at);
+        self.counts.call("openings by cause", found.err().unwrap_or(0));
         answer.map(|day| (day, table))
     }
 
     /// Default thresholds. Answers the cause.
     pub fn thresholds(&mut self, month: i64, zone: i64) -> u64 {
-        let answer = ordinary::default_thresholds(month, zone);
-        let (upper, lower) = answer.unwrap_or((0, 0));
-        let expected = (answer.err().unwrap_or(0), upper, lower);
-        let defaults = library::default_thresholds(month, zone);
-        let found = (defaults.cause, defaults.upper, defaults.lower);
+        let expected = ordinary::default_thresholds(month, zone);
+        let defaults = gas_day::default_thresholds(month, zone);
+        let found = defaults.map(|pair| (pair.upper, pair.lower)).map_err(Cause::number);
         assert_eq!(found, expected, "{}: the default thresholds of month {month}, zone {zone} differ", self.at);
-        self.counts.call("thresholds by cause", found.0);
-        found.0
+        let cause = found.err().unwrap_or(0);
+        self.counts.call("thresholds by cause", cause);
+        cause
     }
 
     /// A file, read into lists of these lengths. Answers the cause.
@@ -219,17 +212,22 @@ impl Run {
         let before = lengths.map(|length| vec![-7_i64; length]);
         let (mut lists, mut others) = (before.clone(), before.clone());
         let [a, b, c, d] = &mut others;
-        let answer = ordinary::read_file(bytes, a, b, c, d);
-        let (hour, zone, lines) = answer.unwrap_or((0, 0, 0));
-        let expected = (answer.err().unwrap_or(0), hour, zone, lines);
-        let [a, b, c, d] = &mut lists;
-        let read = library::read_hour_file(bytes, a, b, c, d);
-        let found = (read.cause, read.hour, read.zone, read.lines);
-        if (found, &lists) != (expected, &others) || (found.0 != 0 && lists != before) {
+        let expected = ordinary::read_file(bytes, a, b, c, d);
+        let [entries, exits, titles, poolings] = &mut lists;
+        let lent = FileLists {
+            entries,
+            exits,
+            titles,
+            poolings,
+        };
+        let read = gas_day::read_hour_file(bytes, lent);
+        let found = read.map(|file| (file.hour, file.zone, file.lines as i64)).map_err(Cause::number);
+        if (found, &lists) != (expected, &others) || (found.is_err() && lists != before) {
             let shown = String::from_utf8_lossy(&bytes[..bytes.len().min(400)]);
             panic!("{}: a file differs\n{shown:?}\nlengths {lengths:?}\nthe library: {found:?}\nthe ordinary one: {expected:?}", self.at);
         }
-        self.counts.call("files by cause", found.0);
-        found.0
+        let cause = found.err().unwrap_or(0);
+        self.counts.call("files by cause", cause);
+        cause
     }
 }

@@ -1,5 +1,6 @@
-//! The library against the ordinary settlement: both are given the same calls, and every answer, record and lent area is compared after every call. A difference
-//! ends the run with the seed, the round and what was given. At the end the calls are counted by what they were for, and too few of anything is a failure too.
+//! The library, as a client calls it from Rust, against the ordinary settlement: both are given the same calls, and every answer, record and lent area is compared
+//! after every call. A difference ends the run with the seed, the round and what was given. At the end the calls are counted by what they were for, and too few of
+//! anything is a failure too.
 
 mod at_random;
 mod both;
@@ -10,7 +11,6 @@ use both::Run;
 use counts::Counts;
 
 fn main() {
-    assert_eq!(library::version(), 1, "the library is of another version");
     let mut run = Run {
         at: String::new(),
         counts: Counts::new(),

@@ -1,0 +1,29 @@
+//! Links `libgas_day.a`: from the folder that `GAS_DAY_LIB` names, else from where `bindings/build` puts it.
+
+use std::env;
+use std::path::{Path, PathBuf};
+use std::process::exit;
+
+fn folder() -> PathBuf {
+    match env::var_os("GAS_DAY_LIB") {
+        Some(named) if !named.is_empty() => PathBuf::from(named),
+        _ => Path::new(env!("CARGO_MANIFEST_DIR")).join("../../target/bindings/lib"),
+    }
+}
+
+fn main() {
+    let folder = folder();
+    let library = folder.join("libgas_day.a");
+    println!("cargo:rerun-if-env-changed=GAS_DAY_LIB");
+    println!("cargo:rerun-if-changed={}", library.display());
+    if !folder.is_absolute() {
+        eprintln!("gas_day: GAS_DAY_LIB is to be an absolute path, not {}", folder.display());
+        exit(1);
+    }
+    if !library.exists() {
+        eprintln!("gas_day: there is no {}: run bindings/build, or set GAS_DAY_LIB to the folder of libgas_day.a", library.display());
+        exit(1);
+    }
+    println!("cargo:rustc-link-search=native={}", folder.display());
+    println!("cargo:rustc-link-lib=static=gas_day");
+}

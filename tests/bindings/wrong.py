@@ -1,0 +1,224 @@
+"""Wrong bindings, each an edit of a copy: what the bindings' own tests, or their comparison with the header, have to fail with. Two are tried at a time.
+
+Usage: wrong.py FOLDER, from the repository's root, with GAS_DAY_VECTORS set; the copies go to the folder."""
+
+import os
+import re
+import shutil
+import subprocess
+import sys
+from concurrent.futures import ThreadPoolExecutor
+from pathlib import Path
+
+LIBRARIES = Path("target/bindings/lib").resolve()
+
+PYTHON = Path("bindings/python/gas_day.py")
+PYTHON_EDITS = {  # by the tests that have to tell them
+    "test_[ad]*.py": [  # answers and arguments
+        ("hour.first | hour.second << 64", "hour.second | hour.first << 64"),
+        ('_area(title, "title"), _area(pooling, "pooling")', '_area(pooling, "pooling"), _area(title, "title")'),
+        ("_amounts(entry, exit, title, pooling)\n    return", "_amounts(exit, entry, title, pooling)\n    return"),
+        ("_amounts(entry, exit, title, pooling)\n        with", "_amounts(entry, exit, pooling, title)\n        with"),
+        ("_outcome(done), list(quantity), list(money))", "_outcome(done), list(money), list(quantity))"),
+        ("done.sold, done.bought, list(quantity)", "done.bought, done.sold, list(quantity)"),
+        ("Thresholds(answer.upper, answer.lower)", "Thresholds(answer.lower, answer.upper)"),
+        ('        _whole(excess_price, "excess_price"),\n', '        _whole(shortfall_price, "excess_price"),\n'),
+        ('_whole(thresholds.lower, "thresholds.lower")', '-_whole(thresholds.upper, "thresholds.upper")'),
+        ("_closing_terms(zone, excess_price, shortfall_price)\n        with", "_closing_terms(zone, shortfall_price, excess_price)\n        with"),
+        ("amounts[: read.lines]", "amounts[:]"),
+        ("HourFile(read.hour, Zone(read.zone)", "HourFile(read.hour, Zone(0)"),
+        ("            title=file.title,", "            title=file.pooling,"),
+    ],
+    "test_arguments.py": [  # what is no number, no list, no file
+        ("if not -(2**63) <= value < 2**63:", "if not -(2**63) <= value < 2**64:"),
+        ("int.__index__(operator.index(number))", "int(number)"),
+        ("(list, tuple, array)", "(list, tuple, array, set, bytes)"),
+        ('memoryview(numbers).format == "q"', 'numbers.typecode == "q"'),
+        ("(c_int64 * len(values))(*values)", "(c_int64 * max(len(values), 2))(*values)"),
+        ("(c_int64 * (len(data) // 8))", "(c_int64 * len(numbers))"),
+        ('f"{what}[{place}]"', '"numbers"'),
+        ('list(_area(state.table, "table"))', "state.table"),
+        ("(bytes, bytearray, memoryview)):", "(bytes, bytearray, memoryview, array)):"),
+        ("memoryview(file).tobytes()", "bytes(bytearray(file)) if isinstance(file, bytes) else bytes(file.obj if isinstance(file, memoryview) else file)"),
+    ],
+    "test_[ar]*.py": [  # refusals
+        ("    if answer.cause:", "    if answer.cause > 1:"),
+        ("raise Refusal(call, Cause(answer.cause))", 'raise Refusal("gas_day", Cause(answer.cause))'),
+        ("users = record.users if USERS_LEAST <= record.users <= USERS_MOST else 0", "users = record.users"),
+        ('_whole(zone.closed, f"{what}.closed")', 'bool(_whole(zone.closed, f"{what}.closed"))'),
+    ],
+    "test_[dr]*.py": [  # the day
+        ("            self._keep(done.day, done.table)\n        return done\n\n    def settle_file", "        return done\n\n    def settle_file"),
+        ("            self._keep(done.day, done.table)\n        return done\n\n    def __reduce__", "        return done\n\n    def __reduce__"),
+        ("        with self._turn:  # no code", "        if True:  # no code"),
+        ("        with self._turn:\n            day, table = self._state\n            done = _c", "        if True:\n            day, table = self._state\n            done = _c"),
+        ("State(_day(_record(state.day)), ", "State(state.day, "),
+        ("        part = table[zone * ZONE_PLACES : (zone + 1) * ZONE_PLACES]", "        part = table[zone * ZONE_PLACES :]"),
+        ("part[: max(day.users, 0)]", "part[: day.users]"),
+        ("bool(zone.closed) if zone.closed in (0, 1) else zone.closed", "bool(zone.closed)"),
+    ],
+    "test_loading.py": [  # loading
+        ("        if version != VERSION:", "        if version < VERSION:"),
+        ('next((str(path) for path in near if path.exists()), file)', "file"),
+        ('    if folder.parts[-2:] == ("bindings", "python"):', "    if True:"),
+        ("    except (OSError, AttributeError) as error:", "    except OSError as error:"),
+        ('    if __name__ != "__main__":\n        raise', "    if True:\n        raise"),
+    ],
+    "test_shell.py": [  # the command
+        ("            return 1\n", "            return 2\n"),
+        ('        print(f"gas_day: {message}", file=sys.stderr)', '        print(f"gas_day: {message}")'),
+        ("    if sys.stderr is not None:  # print would take None for standard output\n        print", "    if True:\n        print"),
+        ("([True, False, False], [False, True, True])", "([True, False, False], [False, True, True], [True, True, False])"),
+        ('    if sys.stdout is None:\n        raise OSError("closed")\n', ""),
+        ("    sys.stdout.flush()\n", ""),
+        ('            os.dup2(os.open(os.devnull, os.O_WRONLY), sys.stdout.fileno())', "            pass"),
+        ('re.fullmatch("-?[0-9]+", text)', 're.fullmatch("[-+]?[0-9_]+", text)'),
+        ('        epilog=_STATUS,\n        allow_abbrev=False,', "        epilog=_STATUS,"),
+    ],
+}
+
+RUST = Path("bindings/rust/src")
+RUST_EDITS = [
+    ("lib.rs", "exit, title, pooling } = amounts", "exit, title: pooling, pooling: title } = amounts"),
+    ("lib.rs", "{ entry, exit, title, pooling } = amounts", "{ entry: exit, exit: entry, title, pooling } = amounts"),
+    ("lib.rs", "{ entries, exits, titles, poolings } = lists", "{ entries: exits, exits: entries, titles, poolings } = lists"),
+    ("lib.rs", "    // SAFETY: above.\n    let hour", "    let (quantity, money) = (money, quantity);\n    let hour"),
+    ("lib.rs", "    // SAFETY: above.\n    let closing", "    let (quantity, money) = (money, quantity);\n    let closing"),
+    ("lib.rs", "    *day = hour.day;\n", ""),
+    ("lib.rs", "    *day = closing.day;\n", ""),
+    ("lib.rs", "    accepted(hour.cause)?;\n", ""),
+    ("lib.rs", "    accepted(closing.cause)?;\n", ""),
+    ("lib.rs", "    accepted(opened.cause)?;\n", ""),
+    ("lib.rs", "    accepted(defaults.cause)?;\n", ""),
+    ("lib.rs", "    accepted(read.cause)?;\n", ""),
+    ("lib.rs", "1 => Side::Excess", "1 => Side::Shortfall"),
+    ("lib.rs", "total: hour.total", "total: hour.total.min(10_000_000)"),
+    ("lib.rs", "first: hour.first, second: hour.second", "first: hour.second, second: hour.first"),
+    ("lib.rs", "sold: closing.sold, bought: closing.bought", "sold: closing.bought, bought: closing.sold"),
+    ("lib.rs", "upper: defaults.upper, lower: defaults.lower", "upper: defaults.lower, lower: defaults.upper"),
+    ("lib.rs", "self.second >> (place - 64)", "self.first >> (place - 64)"),
+    ("lib.rs", "64..=127 =>", "64..=100 =>"),
+    ("lib.rs", "            _ => false,", "            _ => true,"),
+    ("lib.rs", "(0..limits::ZONE_PLACES).filter", "(0..100).filter"),
+    ("lib.rs", "hour: read.hour", "hour: 1"),
+    ("lib.rs", "zone: read.zone", "zone: 0"),
+    ("lib.rs", "lines: read.lines as usize", "lines: read.hour as usize"),
+    ("lib.rs", "            file.len(),", "            file.len().min(400),"),
+    ("cause.rs", "Pooling = 10,", "Pooling = 18,"),
+    ("cause.rs", "cause.number() == number", "cause.number() == number & 0xff"),
+    ("cause.rs", 'write!(to, "cause {}: {}", self.number(), self.words())', 'write!(to, "cause {}", self.number())'),
+]
+
+# What no call may show, or a test in the binding's own language would not see: declarations, names and words.
+DECLARATION_EDITS = [
+    ("gas_day.py", '("upper", c_int64),\n        ("lower"', '("lower", c_int64),\n        ("upper"'),
+    ("gas_day.py", '("total", c_int64)', '("total", c_uint64)'),
+    ("gas_day.py", '("sold", c_int64), ("bought"', '("bought", c_int64), ("sold"'),
+    ("gas_day.py", "*(6 * _NUMBERS), *_SCRATCH", "*(7 * _NUMBERS)"),
+    ("gas_day.py", "*(2 * _NUMBERS)], _Closing", "*(2 * _NUMBERS)], _File"),
+    ("gas_day.py", "HOURS = 24", "HOURS = 25"),
+    ("gas_day.py", "EXIT_LEAST = -50_000_000", "EXIT_LEAST = 50_000_000"),
+    ("gas_day.py", "    EXCESS = 1\n    SHORTFALL = 2", "    SHORTFALL = 1\n    EXCESS = 2"),
+    ("gas_day.py", "    AMOUNT = 9\n    POOLING = 10", "    POOLING = 9\n    AMOUNT = 10"),
+    ("gas_day.py", "    FILE_EMPTY = 17\n", "    FILE_EMPTY = 17\n    FILE_LATER = 18\n"),
+    ("gas_day.py", '"header differs"', '"the header differs"'),
+    ("boundary.rs", "        entry: *const i64,\n        entry_places: usize,\n", "        entries: *const i64,\n        entries_places: usize,\n"),
+    ("boundary.rs", "        title: *const i64,\n        title_places: usize,\n", ""),
+    ("boundary.rs", "pub first: u64,\n    pub second: u64", "pub second: u64,\n    pub first: u64"),
+    ("boundary.rs", "pub lines: i64", "pub lines: u64"),
+    ("boundary.rs", "month: i64, zone: i64", "zone: i64, month: i64"),
+    ("boundary.rs", "scratch: *mut u64", "scratch: *const u64"),
+    ("boundary.rs", "    pub fn gas_day_version() -> u64;\n", ""),
+    ("boundary.rs", "    pub lines: i64,\n", "    pub lines: i64,\n    pub spare: [u64; 4],\n"),
+    ("lib.rs", "pub const VERSION: u64 = 1;", "pub const VERSION: u64 = 2;"),
+    ("limits.rs", "pub const PRICE_MOST: i64 = 10_000_000;", "pub const PRICE_MOST: i64 = 1_000_000;"),
+    ("limits.rs", "pub const USERS_LEAST: i64 = 1;\n", ""),
+    ("limits.rs", "pub const USERS_LEAST: i64 = 1;\n", "pub const USERS_LEAST: i64 = 1;\npub const ENTRY_MOST: i64 = 1;\n"),
+    ("cause.rs", "Zone = 4,", "Zone = 5,"),
+    ("cause.rs", "/// Zone closed.", "/// Zone open."),
+    ("cause.rs", "Amount = 9,", "Quantity = 9,"),
+    ("cause.rs", '"no line after the header"', '"no line"'),
+    ("cause.rs", "at or beyond the user count in either zone, \"", "at or beyond the user count, \""),
+    ("cause.rs", "    FileEmpty = 17,\n", "    FileEmpty = 17,\n    /// No cause.\n    FileLater = 18,\n"),
+]
+
+
+def edited(text, old, new):
+    assert text.count(old) == 1, f"{text.count(old)} times there: {old}"
+    return text.replace(old, new)
+
+
+def tested_python(folder, given):
+    """How such tests of the module end, OK or FAILED, with this text for the module. A module that cannot be imported is no test."""
+    tests, text = given
+    (folder / "gas_day.py").write_text(text)
+    library = next(LIBRARIES.glob("libgas_day.so.*"))
+    environment = {**os.environ, "PYTHONPATH": str(folder), "GAS_DAY_LIBRARY": str(library)}
+    command = [sys.executable, "-B", "-m", "unittest", "discover", "-f", "-s", "bindings/python/tests", "-p", tests]
+    run = subprocess.run(command, env=environment, capture_output=True, text=True, check=False, timeout=120)
+    end = re.findall(r"^(OK|FAILED)\b", run.stderr, re.M)
+    return "not imported" if "Failed to import" in run.stderr or not end else end[-1]
+
+
+def tested_rust(folder, sources):
+    """The same for the crate, with these sources."""
+    for name, text in sources.items():
+        (folder / name).write_text(text)
+    build = ["rustc", "--edition", "2021", "--out-dir", str(folder), "-L", f"native={LIBRARIES}"]
+    subprocess.run([*build, "-A", "warnings", "--crate-name", "gas_day", "--crate-type", "rlib", "-l", "static=gas_day", str(folder / "lib.rs")], check=True)
+    for test in ("causes", "days"):
+        subprocess.run([*build, "--test", "--extern", f"gas_day={folder}/libgas_day.rlib", f"bindings/rust/tests/{test}.rs"], check=True)
+        if subprocess.run([str(folder / test)], capture_output=True, check=False).returncode != 0:
+            return "FAILED"
+    return "OK"
+
+
+def tested_declarations(folder, sources):
+    """The same for the comparison of both with the header."""
+    for name, text in sources.items():
+        (folder / name).write_text(text)
+    library = next(LIBRARIES.glob("libgas_day.so.*"))
+    environment = {**os.environ, "PYTHONPATH": str(folder), "GAS_DAY_LIBRARY": str(library)}
+    run = subprocess.run([sys.executable, "-B", "tests/bindings/against_header.py", str(folder)], env=environment, capture_output=True, text=True, check=False)
+    return "OK" if run.returncode == 0 else "FAILED" if "bindings: " in run.stdout else run.stderr
+
+
+def tries():
+    """Each try by what it puts in, with its test and what that is given; first both bindings as they are."""
+    module, sources = PYTHON.read_text(), {path.name: path.read_text() for path in RUST.glob("*.rs")}
+    both = {"gas_day.py": module, **sources}
+    yield "Python as it is", tested_python, ("test_*.py", module)
+    yield "Rust as it is", tested_rust, sources
+    yield "declarations as they are", tested_declarations, both
+    for tests, edits in PYTHON_EDITS.items():
+        for old, new in edits:
+            yield f"Python: {new!r} for {old!r}", tested_python, (tests, edited(module, old, new))
+    for file, old, new in RUST_EDITS:
+        yield f"Rust: {new!r} for {old!r}", tested_rust, {**sources, file: edited(sources[file], old, new)}
+    for file, old, new in DECLARATION_EDITS:
+        yield f"{file}: {new!r} for {old!r}", tested_declarations, {**both, file: edited(both[file], old, new)}
+
+
+def main():
+    root = Path(sys.argv[1]).resolve()
+    shutil.rmtree(root, ignore_errors=True)
+
+    def end(number, test, given):
+        folder = root / str(number)
+        folder.mkdir(parents=True)
+        return test(folder, given)
+
+    not_told = 0
+    with ThreadPoolExecutor(2) as pool:
+        ends = [(what, pool.submit(end, number, test, given)) for number, (what, test, given) in enumerate(tries())]
+        for what, future in ends:
+            expected = "OK" if what.endswith((" as it is", " as they are")) else "FAILED"
+            if future.result() != expected:
+                print(f"wrong bindings: {what}: the tests end in {future.result()!r}, not {expected!r}")
+                not_told += 1
+    print(f"wrong bindings: {len(ends) - 3} tried, {not_told} not told")
+    return not_told > 0
+
+
+if __name__ == "__main__":
+    sys.exit(main())

@@ -1,0 +1,182 @@
+//! Calls and what the ordinary settlement answers, one a line as JSON, for the test of a binding that is not written in Rust: openings, thresholds, whole days call by
+//! call, hours and closings spoilt in every way, and files. What a binding lends of its own (quantity, money, scratch, the reader's lists) is always of the right length.
+
+use ordinary::made_up::{self, Kind};
+use ordinary::random::Random;
+use ordinary::spoilt::{closing_ways, fit_closing, fit_hour, hour_ways, Call};
+use ordinary::spoilt_file::{fit_file, WAYS};
+use ordinary::{Day, Outcome, Side};
+
+/// Whether a call goes on with the day of the line before.
+#[derive(Clone, Copy)]
+enum Of {
+    Day,
+    Nothing,
+}
+
+fn record(day: &Day) -> String {
+    format!("[{}, {}, {}, {}, {}]", day.users, day.hours[0], day.closed[0], day.hours[1], day.closed[1])
+}
+
+fn given(of: Of, call: &Call) -> String {
+    let terms = &call.amounts.terms;
+    format!(
+        r#""goes_on": {}, "day": {}, "table": {:?}, "zone": {}, "excess_price": {}, "shortfall_price": {}"#,
+        matches!(of, Of::Day),
+        record(&call.day),
+        call.table,
+        call.zone,
+        terms.excess_price,
+        terms.shortfall_price
+    )
+}
+
+fn lent(call: &Call) -> String {
+    format!(
+        r#""day_after": {}, "table_after": {:?}, "quantity": {:?}, "money": {:?}"#,
+        record(&call.day),
+        call.table,
+        call.quantity,
+        call.money
+    )
+}
+
+fn opening(users: i64) {
+    let cause = ordinary::open(users, &mut [0; 256]).err().unwrap_or(0);
+    println!(r#"{{"call": "open_day", "users": {users}, "cause": {cause}}}"#);
+}
+
+fn thresholds(month: i64, zone: i64) {
+    let answer = ordinary::default_thresholds(month, zone);
+    let (upper, lower) = answer.unwrap_or((0, 0));
+    let cause = answer.err().unwrap_or(0);
+    println!(r#"{{"call": "default_thresholds", "month": {month}, "zone": {zone}, "cause": {cause}, "upper": {upper}, "lower": {lower}}}"#);
+}
+
+/// The hour's side, total and causers by place.
+fn shown(outcome: &Outcome) -> (u64, i64, Vec<usize>) {
+    match *outcome {
+        Outcome::Within => (0, 0, Vec::new()),
+        Outcome::Settled { side, total, marks, .. } => {
+            let marked = |place: &usize| marks[place / 64] >> (place % 64) & 1 == 1;
+            let side = if side == Side::Excess { 1 } else { 2 };
+            (side, total, (0..128).filter(marked).collect())
+        }
+    }
+}
+
+fn hour(of: Of, call: &mut Call) {
+    let users = call.amounts.entry.len();
+    (call.quantity, call.money, call.scratch) = (vec![0; users], vec![0; users], vec![0; users]);
+    let (given, a) = (given(of, call), call.amounts.clone());
+    let answer = ordinary::settle_hour(
+        call.day,
+        &mut call.table,
+        call.zone,
+        call.hour,
+        &a.entry,
+        &a.exit,
+        &a.title,
+        &a.pooling,
+        a.terms,
+        &mut call.quantity,
+        &mut call.money,
+        &mut call.scratch,
+    );
+    let cause = answer.as_ref().err().copied().unwrap_or(0);
+    let (side, total, causers) = match answer {
+        Err(_) => (0, 0, Vec::new()),
+        Ok((day, outcome)) => {
+            call.day = day;
+            shown(&outcome)
+        }
+    };
+    print!(r#"{{"call": "settle_hour", {given}, "hour": {}, "upper": {}, "lower": {}, "#, call.hour, a.terms.upper, a.terms.lower);
+    print!(r#""entry": {:?}, "exit": {:?}, "title": {:?}, "pooling": {:?}, "#, a.entry, a.exit, a.title, a.pooling);
+    println!(r#""cause": {cause}, {}, "side": {side}, "total": {total}, "causers": {causers:?}}}"#, lent(call));
+}
+
+fn closing(of: Of, call: &mut Call) {
+    let users = call.day.users.clamp(0, 128) as usize;
+    (call.quantity, call.money) = (vec![0; users], vec![0; users]);
+    let given = given(of, call);
+    let answer = ordinary::close_zone(
+        call.day,
+        &mut call.table,
+        call.zone,
+        call.amounts.terms.excess_price,
+        call.amounts.terms.shortfall_price,
+        &mut call.quantity,
+        &mut call.money,
+    );
+    let cause = answer.as_ref().err().copied().unwrap_or(0);
+    let (sold, bought) = answer.map_or((0, 0), |(day, sold, bought)| {
+        call.day = day;
+        (sold, bought)
+    });
+    println!(r#"{{"call": "close_zone", {given}, "cause": {cause}, {}, "sold": {sold}, "bought": {bought}}}"#, lent(call));
+}
+
+fn file(bytes: &[u8]) {
+    let [mut entry, mut exit, mut title, mut pooling] = [[0; 128]; 4];
+    let answer = ordinary::read_file(bytes, &mut entry, &mut exit, &mut title, &mut pooling);
+    let (hour, zone, lines) = answer.unwrap_or((0, 0, 0));
+    let (cause, lines) = (answer.err().unwrap_or(0), lines as usize);
+    print!(r#"{{"call": "read_hour_file", "file": {bytes:?}, "cause": {cause}, "hour": {hour}, "zone": {zone}, "#);
+    println!(r#""entry": {:?}, "exit": {:?}, "title": {:?}, "pooling": {:?}}}"#, &entry[..lines], &exit[..lines], &title[..lines], &pooling[..lines]);
+}
+
+/// A whole day: all hours of both zones, mixed and of every kind, spoilt ones among them; closings that come too early, in time and twice.
+fn day(random: &mut Random, users: usize) {
+    opening(users as i64);
+    let mut table = vec![0; 256];
+    let record = ordinary::open(users as i64, &mut table).expect("opened");
+    let amounts = made_up::hour(random, users, Kind::Within, &[]);
+    let mut call = Call::new(record, table, 0, 1, amounts);
+    while call.day.closed != [1, 1] {
+        call.zone = random.between(0, 1);
+        let zone = call.zone as usize;
+        let kind = random.pick(Kind::ALL);
+        call.amounts = made_up::hour(random, users, kind, &call.table[zone * 128..zone * 128 + 128]);
+        if random.one_in(6) {
+            made_up::spoil(random, &mut call.amounts);
+        }
+        call.hour = call.day.hours[zone] + random.pick([1, 1, 1, 1, 1, 0, 2]);
+        if random.one_in(8) {
+            closing(Of::Day, &mut call);
+        } else {
+            hour(Of::Day, &mut call);
+        }
+    }
+    closing(Of::Day, &mut call);
+}
+
+fn main() {
+    let mut random = Random::new(1);
+    [i64::MIN, -1, 0, 1, 2, 127, 128, 129, 257, i64::MAX].into_iter().for_each(opening);
+    for month in -1..=14 {
+        (-1..=2).for_each(|zone| thresholds(month, zone));
+    }
+    [1, 2, 3, 64, 65, 128].into_iter().for_each(|users| day(&mut random, users));
+    for zone in [0, 1, 0, 1] {
+        for way in hour_ways() {
+            let mut call = fit_hour(&mut random, zone);
+            (way.spoil)(&mut random, &mut call);
+            hour(Of::Nothing, &mut call);
+        }
+        for way in closing_ways() {
+            let mut call = fit_closing(&mut random, zone);
+            (way.spoil)(&mut random, &mut call);
+            closing(Of::Nothing, &mut call);
+        }
+    }
+    for lines in [1, 2, 3, 128, 1, 2, 3, 128] {
+        file(&fit_file(&mut random, lines).bytes());
+        for way in &WAYS {
+            let mut spoilt = fit_file(&mut random, lines);
+            let at = random.below(lines);
+            (way.spoil)(&mut random, &mut spoilt, at);
+            file(&spoilt.bytes());
+        }
+    }
+}
