@@ -36,33 +36,15 @@ fn as_ordinary(day: Day) -> ordinary::Day {
 type HourAnswer = (u64, u64, i64, u64, u64, u64);
 
 fn ordinary_hour(call: &mut Call) -> HourAnswer {
-    let answer = ordinary::settle_hour(
-        call.day,
-        &mut call.table,
-        call.zone,
-        call.hour,
-        &call.amounts.entry,
-        &call.amounts.exit,
-        &call.amounts.title,
-        &call.amounts.pooling,
-        call.amounts.terms,
-        &mut call.quantity,
-        &mut call.money,
-        &mut call.scratch,
-    );
-    let (day, outcome) = match answer {
-        Err(cause) => return (cause, 0, 0, 0, 0, 0),
-        Ok(accepted) => accepted,
-    };
-    call.day = day;
-    match outcome {
-        Outcome::Within => (0, 0, 0, 0, 0, 0),
-        Outcome::Settled {
+    match call.settle() {
+        Err(cause) => (cause, 0, 0, 0, 0, 0),
+        Ok(Outcome::Within) => (0, 0, 0, 0, 0, 0),
+        Ok(Outcome::Settled {
             side,
             total,
             marks,
             number,
-        } => {
+        }) => {
             let side = if side == Side::Excess { 1 } else { 2 };
             (0, side, total, marks[0], marks[1], number)
         }
@@ -115,22 +97,7 @@ fn library_hour(call: &mut Call) -> HourAnswer {
 type ClosingAnswer = (u64, i64, i64);
 
 fn ordinary_closing(call: &mut Call) -> ClosingAnswer {
-    let answer = ordinary::close_zone(
-        call.day,
-        &mut call.table,
-        call.zone,
-        call.amounts.terms.excess_price,
-        call.amounts.terms.shortfall_price,
-        &mut call.quantity,
-        &mut call.money,
-    );
-    match answer {
-        Err(cause) => (cause, 0, 0),
-        Ok((day, sold, bought)) => {
-            call.day = day;
-            (0, sold, bought)
-        }
-    }
+    call.close().map_or_else(|cause| (cause, 0, 0), |(sold, bought)| (0, sold, bought))
 }
 
 fn library_closing(call: &mut Call) -> ClosingAnswer {

@@ -69,28 +69,9 @@ fn hour(of: Of, call: &mut Call) {
     let users = call.amounts.entry.len();
     (call.quantity, call.money, call.scratch) = (vec![0; users], vec![0; users], vec![0; users]);
     let (given, a) = (given(of, call), call.amounts.clone());
-    let answer = ordinary::settle_hour(
-        call.day,
-        &mut call.table,
-        call.zone,
-        call.hour,
-        &a.entry,
-        &a.exit,
-        &a.title,
-        &a.pooling,
-        a.terms,
-        &mut call.quantity,
-        &mut call.money,
-        &mut call.scratch,
-    );
+    let answer = call.settle();
     let cause = answer.as_ref().err().copied().unwrap_or(0);
-    let (side, total, causers) = match answer {
-        Err(_) => (0, 0, Vec::new()),
-        Ok((day, outcome)) => {
-            call.day = day;
-            shown(&outcome)
-        }
-    };
+    let (side, total, causers) = answer.map_or((0, 0, Vec::new()), |outcome| shown(&outcome));
     print!(r#"{{"call": "settle_hour", {given}, "hour": {}, "upper": {}, "lower": {}, "#, call.hour, a.terms.upper, a.terms.lower);
     print!(r#""entry": {:?}, "exit": {:?}, "title": {:?}, "pooling": {:?}, "#, a.entry, a.exit, a.title, a.pooling);
     println!(r#""cause": {cause}, {}, "side": {side}, "total": {total}, "causers": {causers:?}}}"#, lent(call));
@@ -100,20 +81,9 @@ fn closing(of: Of, call: &mut Call) {
     let users = call.day.users.clamp(0, 128) as usize;
     (call.quantity, call.money) = (vec![0; users], vec![0; users]);
     let given = given(of, call);
-    let answer = ordinary::close_zone(
-        call.day,
-        &mut call.table,
-        call.zone,
-        call.amounts.terms.excess_price,
-        call.amounts.terms.shortfall_price,
-        &mut call.quantity,
-        &mut call.money,
-    );
-    let cause = answer.as_ref().err().copied().unwrap_or(0);
-    let (sold, bought) = answer.map_or((0, 0), |(day, sold, bought)| {
-        call.day = day;
-        (sold, bought)
-    });
+    let answer = call.close();
+    let cause = answer.err().unwrap_or(0);
+    let (sold, bought) = answer.unwrap_or((0, 0));
     println!(r#"{{"call": "close_zone", {given}, "cause": {cause}, {}, "sold": {sold}, "bought": {bought}}}"#, lent(call));
 }
 

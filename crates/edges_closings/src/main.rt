@@ -5,6 +5,7 @@ use checking::at;
 use checking::lent;
 use checking::put;
 use integers::natural;
+use libc::STDOUT_FILENO;
 use ranges::limits::Position;
 use ranges::limits::Price;
 use rules::ClosingAnswer;
@@ -18,8 +19,8 @@ const POSITION: i64 = Position::MOST;
 const PRICE: i64 = Price::MOST;
 
 // The columns: the record; zone, excess price, shortfall price; places of the table, the quantity list and the money list; a place of the table and what it holds.
-const NAMES: [u8; 119] =
-    *b"closing after users |, H |, closed |, L |, closed |, zone |, at | and |, table of |, lists of | and |, place | holding ";
+const NAMES: [u8; 120] =
+    *b"closing after users |, H |, closed |, L |, closed |, zone |, at | and |, table of |, lists of | and |, place | holding |";
 
 const ROWS: [[i64; 13]; 41] = [
     // the usual closing; 2: users, hours and closed zones of the record
@@ -151,57 +152,71 @@ fn close(row: &[i64], table: &mut [i64], quantity: &mut [i64], money: &mut [i64]
 
 // The sums; user 0's quantity, money and place after; and what is compared.
 fn say_closed(
+    line: &mut [u8],
+    at: usize,
     done: ClosingDone,
     row: &[i64],
     before: &[i64],
     table: &[i64],
     quantity: &[i64],
     money: &[i64],
-) {
-    let start = places::first_place(at(row, 5));
-    printing::say(b": closed, ");
-    printing::say_day(done.day);
+) -> usize {
+    let start = places::first_place(checking::at(row, 5));
     let numbers = [
         done.sold,
         done.bought,
-        at(quantity, 0),
-        at(money, 0),
-        at(table, start),
+        checking::at(quantity, 0),
+        checking::at(money, 0),
+        checking::at(table, start),
     ];
-    printing::say_row(b", sold |, bought |, quantity |, money |, after ", &numbers);
-    printing::say_holds(b"part zero", all_are(checking::part(table, start, 128), 0));
-    printing::say_kept(
-        b"other places",
-        checking::same_outside(before, table, start, natural(at(row, 0))),
+    let zero = all_are(checking::part(table, start, 128), 0);
+    let kept = checking::same_outside(before, table, start, natural(checking::at(row, 0)));
+    let end = printing::say(line, at, b": closed, ");
+    let end = printing::say_day(line, end, done.day);
+    let end = printing::say_row(
+        line,
+        end,
+        b", sold |, bought |, quantity |, money |, after |",
+        &numbers,
     );
+    let end = printing::say_holds(line, end, b"part zero", zero);
+    printing::say_kept(line, end, b"other places", kept)
 }
 
 fn say_refused(
+    line: &mut [u8],
+    at: usize,
     refusal: Refusal,
     row: &[i64],
     before: &[i64],
     table: &[i64],
     quantity: &[i64],
     money: &[i64],
-) {
-    printing::say_refusal(refusal, day(row));
+) -> usize {
+    let end = printing::say_refusal(line, at, refusal, day(row));
     printing::say_lent(
+        line,
+        end,
         checking::same_list(table, before),
         all_are(quantity, LENT_QUANTITY),
         all_are(money, LENT_MONEY),
-    );
+    )
 }
 
 fn say_answer(
+    line: &mut [u8],
+    at: usize,
     answer: ClosingAnswer,
     row: &[i64],
     before: &[i64],
     table: &[i64],
     quantity: &[i64],
     money: &[i64],
-) {
+) -> usize {
     match answer {
         ClosingAnswer::Refused(refusal) => say_refused(
+            line,
+            at,
             refusal,
             row,
             before,
@@ -209,9 +224,17 @@ fn say_answer(
             quantity,
             money,
         ),
-        ClosingAnswer::Closed(done) => say_closed(done, row, before, table, quantity, money),
+        ClosingAnswer::Closed(done) => say_closed(
+            line,
+            at,
+            done,
+            row,
+            before,
+            table,
+            quantity,
+            money,
+        ),
     }
-    printing::end_line();
 }
 
 fn run(row: [i64; 13]) {
@@ -221,8 +244,20 @@ fn run(row: [i64; 13]) {
     fill(&mut table, &row);
     let before = table;
     let answer = close(&row, &mut table, &mut quantity, &mut money);
-    printing::say_row(&NAMES, &row);
-    say_answer(answer, &row, &before, &table, &quantity, &money);
+    let mut line = [0u8; 512];
+    let end = printing::say_row(&mut line, 0, &NAMES, &row);
+    let end = say_answer(
+        &mut line,
+        end,
+        answer,
+        &row,
+        &before,
+        &table,
+        &quantity,
+        &money,
+    );
+    let end = printing::say_byte(&mut line, end, b'\n');
+    io::write_all(STDOUT_FILENO, printing::whole(&line, end));
 }
 
 fn main() {

@@ -10,6 +10,7 @@ use checking::put;
 use checking::rest;
 use checking::sums;
 use integers::natural;
+use libc::STDOUT_FILENO;
 use rules::Day;
 use rules::HourAnswer;
 use rules::HourDone;
@@ -117,39 +118,43 @@ fn settle(
 
 // ---- the line
 
-fn say_side(side: Side) {
+fn say_side(line: &mut [u8], at: usize, side: Side) -> usize {
     match side {
         Side::Excess(total) => {
-            printing::say(b", excess ");
-            printing::say_number(total);
+            let end = printing::say(line, at, b", excess ");
+            printing::say_number(line, end, total)
         }
         Side::Shortfall(total) => {
-            printing::say(b", shortfall ");
-            printing::say_number(total);
+            let end = printing::say(line, at, b", shortfall ");
+            printing::say_number(line, end, total)
         }
     }
 }
 
-fn say_marks(marks: Marks) {
-    printing::say(b" by ");
-    printing::say_count(marks.number);
-    printing::say(b" marked ");
-    printing::say_count(marks.first);
-    printing::say(b" ");
-    printing::say_count(marks.second);
+fn say_marks(line: &mut [u8], at: usize, marks: Marks) -> usize {
+    let end = printing::say(line, at, b" by ");
+    let end = printing::say_count(line, end, marks.number);
+    let end = printing::say(line, end, b" marked ");
+    let end = printing::say_count(line, end, marks.first);
+    let end = printing::say_byte(line, end, b' ');
+    printing::say_count(line, end, marks.second)
 }
 
-fn say_done(done: HourDone) {
-    printing::say(b": done, ");
-    printing::say_day(done.day);
-    let outcome = done.outcome;
+fn say_outcome(line: &mut [u8], at: usize, outcome: Outcome) -> usize {
     match outcome {
-        Outcome::Within => printing::say(b", within"),
+        Outcome::Within => printing::say(line, at, b", within"),
         Outcome::Settled(side, marks) => {
-            say_side(side);
-            say_marks(marks);
+            let end = say_side(line, at, side);
+            say_marks(line, end, marks)
         }
     }
+}
+
+fn say_done(line: &mut [u8], at: usize, done: HourDone) -> usize {
+    let end = printing::say(line, at, b": done, ");
+    let end = printing::say_day(line, end, done.day);
+    let outcome = done.outcome;
+    say_outcome(line, end, outcome)
 }
 
 // For each user the place before and the four amounts add up to the quantity and the place after.
@@ -167,11 +172,21 @@ fn conserved(sheet: &[i64], before: &[i64], quantity: &[i64], after: &[i64]) -> 
 }
 
 // User 0's quantity, money and place after; and what is compared.
-fn say_lists(sheet: &[i64], table: &[i64], quantity: &[i64], money: &[i64]) {
+fn say_lists(
+    line: &mut [u8],
+    at: usize,
+    sheet: &[i64],
+    table: &[i64],
+    quantity: &[i64],
+    money: &[i64],
+) -> usize {
     let start = places::first_place(number(sheet, rows::ZONE));
     let n = users(sheet);
-    let numbers = [at(quantity, 0), at(money, 0), at(table, start)];
-    printing::say_row(b", quantity |, money |, after ", &numbers);
+    let numbers = [
+        checking::at(quantity, 0),
+        checking::at(money, 0),
+        checking::at(table, start),
+    ];
     let before = list(sheet, rows::TABLE, 257);
     let kept = conserved(
         sheet,
@@ -179,40 +194,51 @@ fn say_lists(sheet: &[i64], table: &[i64], quantity: &[i64], money: &[i64]) {
         part(quantity, 0, n),
         part(table, start, n),
     );
-    printing::say_holds(b"conserved", kept);
+    let end = printing::say_row(line, at, b", quantity |, money |, after |", &numbers);
+    let end = printing::say_holds(line, end, b"conserved", kept);
     printing::say_kept(
+        line,
+        end,
         b"other places",
         checking::same_outside(before, table, start, n),
-    );
+    )
 }
 
 fn say_refused(
+    line: &mut [u8],
+    at: usize,
     refusal: Refusal,
     sheet: &[i64],
     table: &[i64],
     quantity: &[i64],
     money: &[i64],
     scratch: &[u64],
-) {
-    printing::say_refusal(refusal, day(sheet));
-    printing::say_lent(
+) -> usize {
+    let end = printing::say_refusal(line, at, refusal, day(sheet));
+    let end = printing::say_lent(
+        line,
+        end,
         checking::same_list(table, list(sheet, rows::TABLE, 257)),
         all_are(quantity, LENT_QUANTITY),
         all_are(money, LENT_MONEY),
     );
-    printing::say_kept(b"scratch", all_scratch(scratch, LENT_SCRATCH));
+    printing::say_kept(line, end, b"scratch", all_scratch(scratch, LENT_SCRATCH))
 }
 
 fn say_answer(
+    line: &mut [u8],
+    at: usize,
     answer: HourAnswer,
     sheet: &[i64],
     table: &[i64],
     quantity: &[i64],
     money: &[i64],
     scratch: &[u64],
-) {
+) -> usize {
     match answer {
         HourAnswer::Refused(refusal) => say_refused(
+            line,
+            at,
             refusal,
             sheet,
             table,
@@ -221,53 +247,66 @@ fn say_answer(
             scratch,
         ),
         HourAnswer::Done(done) => {
-            say_done(done);
-            say_lists(sheet, table, quantity, money);
+            let end = say_done(line, at, done);
+            let end = say_lists(line, end, sheet, table, quantity, money);
             let settled = checking::first_scratch(scratch, users(sheet));
-            printing::say_holds(b"scratch zero", all_scratch(settled, 0));
+            printing::say_holds(line, end, b"scratch zero", all_scratch(settled, 0))
         }
     }
-    printing::end_line();
 }
 
 // ---- the cases
 
-// The kind, the number, and the place if the kind has several.
-fn say_change(place: usize, value: i64) {
-    if place == 0 {
-        return;
-    }
-    printing::say_word(&rows::KINDS, place / 300);
-    printing::say_number(value);
+fn say_place(line: &mut [u8], at: usize, place: usize) -> usize {
     if 4200 <= place {
-        printing::say(b" at ");
-        printing::say_count((place % 300) as u64);
+        let end = printing::say(line, at, b" at ");
+        return printing::say_count(line, end, (place % 300) as u64);
     }
+    at
 }
 
-fn say_changes(row: &[i64]) {
-    printing::say(b"hour");
-    say_change(natural(at(row, 0)), at(row, 1));
-    say_change(natural(at(row, 2)), at(row, 3));
-    say_change(natural(at(row, 4)), at(row, 5));
-    say_change(natural(at(row, 6)), at(row, 7));
+// The first change of a row: the kind, the number, and the place if the kind has several.
+fn say_change(line: &mut [u8], at: usize, row: &[i64]) -> usize {
+    let place = natural(checking::at(row, 0));
+    if place == 0 {
+        return at;
+    }
+    let end = printing::say_word(line, at, &rows::KINDS, place / 300);
+    let end = printing::say_number(line, end, checking::at(row, 1));
+    say_place(line, end, place)
 }
 
-// Calls with the table of a second sheet, and prints what came back.
-fn run(sheet: &[i64], table: &mut [i64]) {
+fn say_changes(line: &mut [u8], at: usize, row: &[i64]) -> usize {
+    let end = printing::say(line, at, b"hour");
+    let end = say_change(line, end, row);
+    let end = say_change(line, end, rest(row, 2));
+    let end = say_change(line, end, rest(row, 4));
+    say_change(line, end, rest(row, 6))
+}
+
+// Calls with the table of a second sheet, and says what came back.
+fn run(line: &mut [u8], at: usize, sheet: &[i64], table: &mut [i64]) -> usize {
     let mut quantity = [LENT_QUANTITY; 129];
     let mut money = [LENT_MONEY; 129];
     let mut scratch = [LENT_SCRATCH; 129];
     let answer = settle(sheet, table, &mut quantity, &mut money, &mut scratch);
-    say_answer(answer, sheet, table, &quantity, &money, &scratch);
+    say_answer(line, at, answer, sheet, table, &quantity, &money, &scratch)
 }
 
 fn hour(row: [i64; 8]) {
     let mut sheet = [0i64; rows::SHEET];
     fill(&mut sheet, &row);
     let mut other = sheet;
-    say_changes(&row);
-    run(&sheet, lent(&mut other, natural(rows::TABLE), 257));
+    let mut line = [0u8; 512];
+    let end = say_changes(&mut line, 0, &row);
+    let end = run(
+        &mut line,
+        end,
+        &sheet,
+        lent(&mut other, natural(rows::TABLE), 257),
+    );
+    let end = printing::say_byte(&mut line, end, b'\n');
+    io::write_all(STDOUT_FILENO, printing::whole(&line, end));
 }
 
 // The usual call with one change, by each of the numbers.

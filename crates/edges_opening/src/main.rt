@@ -1,10 +1,10 @@
 // The edges of opening a day and of the default thresholds, one line a case: every number of a list with every one of another. The file `stdout`, with which the
 // lines are compared, has the answers of document 01.
 use checking::all_are;
-use checking::at;
 use checking::first;
 use checking::lent;
 use integers::natural;
+use libc::STDOUT_FILENO;
 use rules::OpenAnswer;
 use rules::ThresholdsAnswer;
 
@@ -38,27 +38,29 @@ const ZONES: [i64; 4] = [0, 1, 2, -1];
 // What the table holds before a call.
 const LENT: i64 = 77;
 
-fn say_opened(answer: OpenAnswer, table: &[i64]) {
+fn say_opened(line: &mut [u8], at: usize, answer: OpenAnswer, table: &[i64]) -> usize {
     match answer {
         OpenAnswer::Refused(number) => {
-            printing::say_refused(number);
-            printing::say_kept(b"table", all_are(table, LENT));
+            let end = printing::say_refused(line, at, number);
+            printing::say_kept(line, end, b"table", all_are(table, LENT))
         }
         OpenAnswer::Opened(day) => {
-            printing::say(b": opened, ");
-            printing::say_day(day);
-            printing::say_holds(b"table zero", all_are(first(table, 256), 0));
+            let end = printing::say(line, at, b": opened, ");
+            let end = printing::say_day(line, end, day);
+            printing::say_holds(line, end, b"table zero", all_are(first(table, 256), 0))
         }
     }
-    printing::end_line();
 }
 
 fn open(users: i64, places: i64) {
     let mut table = [LENT; 257];
-    let row = [users, places];
-    printing::say_row(b"open | users, table of ", &row);
     let answer = gas_day::open(users, lent(&mut table, 0, natural(places)));
-    say_opened(answer, &table);
+    let row = [users, places];
+    let mut line = [0u8; 512];
+    let end = printing::say_row(&mut line, 0, b"open | users, table of |", &row);
+    let end = say_opened(&mut line, end, answer, &table);
+    let end = printing::say_byte(&mut line, end, b'\n');
+    io::write_all(STDOUT_FILENO, printing::whole(&line, end));
 }
 
 fn openings() {
@@ -69,17 +71,24 @@ fn openings() {
     }
 }
 
-fn default_thresholds(month: i64, zone: i64) {
-    let row = [month, zone];
-    printing::say_row(b"thresholds of month |, zone ", &row);
-    match gas_day::default_thresholds(month, zone) {
-        ThresholdsAnswer::Refused(number) => printing::say_refused(number),
+fn say_thresholds(line: &mut [u8], at: usize, answer: ThresholdsAnswer) -> usize {
+    match answer {
+        ThresholdsAnswer::Refused(number) => printing::say_refused(line, at, number),
         ThresholdsAnswer::Defaults(thresholds) => {
             let numbers = [thresholds.upper, thresholds.lower];
-            printing::say_row(b": | ", &numbers);
+            printing::say_row(line, at, b": | |", &numbers)
         }
     }
-    printing::end_line();
+}
+
+fn default_thresholds(month: i64, zone: i64) {
+    let answer = gas_day::default_thresholds(month, zone);
+    let row = [month, zone];
+    let mut line = [0u8; 512];
+    let end = printing::say_row(&mut line, 0, b"thresholds of month |, zone |", &row);
+    let end = say_thresholds(&mut line, end, answer);
+    let end = printing::say_byte(&mut line, end, b'\n');
+    io::write_all(STDOUT_FILENO, printing::whole(&line, end));
 }
 
 fn thresholds() {

@@ -5,7 +5,7 @@
 
 use crate::made_up::{day, hour, odd_beyond, split, Hour, Kind, REACH};
 use crate::random::Random;
-use crate::{limits, Day};
+use crate::{close_zone, limits, settle_hour, Day, Outcome};
 
 /// What an hour or a closing is lent and given. A closing takes the zone and the two
 /// prices of what is given, and has no scratch.
@@ -44,6 +44,41 @@ impl Call {
             hour,
             amounts,
         }
+    }
+
+    /// Settles it as an hour; the record after an accepted one is kept.
+    pub fn settle(&mut self) -> Result<Outcome, u64> {
+        let (day, outcome) = settle_hour(
+            self.day,
+            &mut self.table,
+            self.zone,
+            self.hour,
+            &self.amounts.entry,
+            &self.amounts.exit,
+            &self.amounts.title,
+            &self.amounts.pooling,
+            self.amounts.terms,
+            &mut self.quantity,
+            &mut self.money,
+            &mut self.scratch,
+        )?;
+        self.day = day;
+        Ok(outcome)
+    }
+
+    /// The same as a closing: what was sold and bought.
+    pub fn close(&mut self) -> Result<(i64, i64), u64> {
+        let (day, sold, bought) = close_zone(
+            self.day,
+            &mut self.table,
+            self.zone,
+            self.amounts.terms.excess_price,
+            self.amounts.terms.shortfall_price,
+            &mut self.quantity,
+            &mut self.money,
+        )?;
+        self.day = day;
+        Ok((sold, bought))
     }
 }
 
