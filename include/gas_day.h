@@ -1,4 +1,4 @@
-/* The Gas Day for C: opening, default thresholds, an hour's settlement, a zone's closing, and the reader of an hour's file.
+/* The Gas Day for C: opening, default thresholds, an hour's settlement, a zone's closing, and the reader and the writer of an hour's file.
  *
  * Link with libgas_day.a, or with libgas_day.so, which bindings/build makes and puts where it says; `pkg-config gas_day` names the flags.
  *
@@ -24,7 +24,9 @@
 extern "C" {
 #endif
 
-/* ---- the version of this header. A library of another version has other structs or other calls: compare before the first call */
+/* ---- the version of this header. A library of another version has other structs or other calls: compare before the first call. A call that is added, with its
+ * causes and limits, changes nothing for older programs and leaves the version as it is. A library of this version may be older and lack it: a program that makes the
+ * call is then not linked, or is ended by the loader, which names the call. Added so far: gas_day_write_hour_file */
 
 #define GAS_DAY_VERSION UINT64_C(1)
 
@@ -45,29 +47,33 @@ uint64_t gas_day_version(void);
 #define GAS_DAY_POSITION_MOST INT64_C(100000000)   /* a position, before or after settlement: of either sign */
 #define GAS_DAY_THRESHOLD_MOST INT64_C(1000000000) /* upper: 0 to this; lower: minus this to 0 */
 #define GAS_DAY_PRICE_MOST INT64_C(10000000)       /* of either sign */
+#define GAS_DAY_WRITE_BYTES_MOST 7833              /* lent bytes that are enough for every file: 25, and 61 for each of 128 lines */
 
 /* ---- causes: the first that applies, in the order of their numbers. The words are the requirements' */
 
 enum {
     GAS_DAY_ACCEPTED = 0,
-    GAS_DAY_CAUSE_USERS = 1,        /* opening: user count not 1 to 128 */
-    GAS_DAY_CAUSE_RECORD = 2,       /* record's user count not 1 to 128, hours not 0 to 24, or a zone closed with fewer than 24 */
-    GAS_DAY_CAUSE_LENGTH = 3,       /* table not of 256 places, or a list or the scratch not of exactly the user count */
-    GAS_DAY_CAUSE_ZONE = 4,         /* zone not 0 or 1 */
-    GAS_DAY_CAUSE_CLOSED = 5,       /* zone closed */
-    GAS_DAY_CAUSE_HOUR = 6,         /* hour is not hours done plus 1, or above 24; at closing, hours done below 24 */
-    GAS_DAY_CAUSE_TABLE = 7,        /* table holds a position outside its range, a non-zero place at or beyond the user count in either zone,
-                                     * or a non-zero place in a zone that is closed or has no hours done */
-    GAS_DAY_CAUSE_TERMS = 8,        /* threshold or price out of range; month not 1 to 12 */
-    GAS_DAY_CAUSE_AMOUNT = 9,       /* an amount out of range */
-    GAS_DAY_CAUSE_POOLING = 10,     /* pooling amounts do not add to zero */
-    GAS_DAY_CAUSE_POSITION = 11,    /* a position before settlement out of range */
-    GAS_DAY_CAUSE_FILE_LENGTH = 12, /* a reader's list not of 128 places */
-    GAS_DAY_CAUSE_FILE_HEADER = 13, /* header differs */
-    GAS_DAY_CAUSE_FILE_FORM = 14,   /* a line's form or field count */
-    GAS_DAY_CAUSE_FILE_FIELD = 15,  /* a field's number or zone letter */
-    GAS_DAY_CAUSE_FILE_ORDER = 16,  /* h or z differs from the first line, or g is not the next place below 128 */
-    GAS_DAY_CAUSE_FILE_EMPTY = 17   /* no line after the header */
+    GAS_DAY_CAUSE_USERS = 1,         /* opening: user count not 1 to 128 */
+    GAS_DAY_CAUSE_RECORD = 2,        /* record's user count not 1 to 128, hours not 0 to 24, or a zone closed with fewer than 24 */
+    GAS_DAY_CAUSE_LENGTH = 3,        /* table not of 256 places, or a list or the scratch not of exactly the user count */
+    GAS_DAY_CAUSE_ZONE = 4,          /* zone not 0 or 1 */
+    GAS_DAY_CAUSE_CLOSED = 5,        /* zone closed */
+    GAS_DAY_CAUSE_HOUR = 6,          /* hour is not hours done plus 1, or above 24; at closing, hours done below 24 */
+    GAS_DAY_CAUSE_TABLE = 7,         /* table holds a position outside its range, a non-zero place at or beyond the user count in either zone,
+                                      * or a non-zero place in a zone that is closed or has no hours done */
+    GAS_DAY_CAUSE_TERMS = 8,         /* threshold or price out of range; month not 1 to 12 */
+    GAS_DAY_CAUSE_AMOUNT = 9,        /* an amount out of range */
+    GAS_DAY_CAUSE_POOLING = 10,      /* pooling amounts do not add to zero */
+    GAS_DAY_CAUSE_POSITION = 11,     /* a position before settlement out of range */
+    GAS_DAY_CAUSE_FILE_LENGTH = 12,  /* a reader's list not of 128 places */
+    GAS_DAY_CAUSE_FILE_HEADER = 13,  /* header differs */
+    GAS_DAY_CAUSE_FILE_FORM = 14,    /* a line's form or field count */
+    GAS_DAY_CAUSE_FILE_FIELD = 15,   /* a field's number or zone letter */
+    GAS_DAY_CAUSE_FILE_ORDER = 16,   /* h or z differs from the first line, or g is not the next place below 128 */
+    GAS_DAY_CAUSE_FILE_EMPTY = 17,   /* no line after the header */
+    GAS_DAY_CAUSE_WRITE_COUNT = 18,  /* the count is not 1 to 128, the zone not 0 or 1, or a list is not of the count's length */
+    GAS_DAY_CAUSE_WRITE_NUMBER = 19, /* the hour or an amount has more than nine digits or the hour is negative */
+    GAS_DAY_CAUSE_WRITE_ROOM = 20    /* the lent bytes are too few */
 };
 
 /* ---- the day record: given by value, answered by value */
@@ -164,6 +170,19 @@ typedef struct {
 
 gas_day_file gas_day_read_hour_file(const uint8_t *file, size_t file_bytes, int64_t *entries, size_t entries_places, int64_t *exits, size_t exits_places,
                                     int64_t *titles, size_t titles_places, int64_t *poolings, size_t poolings_places);
+
+/* ---- the hour's file, written: causes 18 to 20. Every line ends in CR LF, the last one too. Writes the text into the first of the lent bytes, answers how many those
+ * are, and touches no others; exactly enough bytes are enough. What is written is read to the same hour, zone and amounts. Ranges are the settlement's affair, not the
+ * writer's */
+
+typedef struct {
+    uint64_t cause;
+    int64_t bytes; /* of the text */
+} gas_day_written;
+
+gas_day_written gas_day_write_hour_file(int64_t hour, int64_t zone, int64_t users, const int64_t *entry, size_t entry_places, const int64_t *exit,
+                                        size_t exit_places, const int64_t *title, size_t title_places, const int64_t *pooling, size_t pooling_places,
+                                        uint8_t *file, size_t file_bytes);
 
 #ifdef __cplusplus
 }

@@ -1,4 +1,5 @@
-"""The hourly balancing settlement of a gas market, recomputed: opening a Gas Day, default thresholds, settling an hour, closing a zone, and reading an hour's file.
+"""The hourly balancing settlement of a gas market, recomputed: opening a Gas Day, default thresholds, settling an hour, closing a zone, and reading and writing an hour's
+file.
 
 The calls are those of a library that is proved to give exactly the answer that the requirements define, for every input. An hour of three users, from a new day:
 
@@ -51,7 +52,7 @@ from ctypes import POINTER, Structure, c_int64, c_size_t, c_uint8, c_uint64
 from dataclasses import dataclass, field
 from enum import IntEnum
 from pathlib import Path
-from typing import Any, List, NoReturn, Tuple, Union
+from typing import Any, List, NoReturn, Optional, Tuple, Union
 
 __all__ = [
     "open_day",
@@ -59,6 +60,7 @@ __all__ = [
     "settle_hour",
     "close_zone",
     "read_hour_file",
+    "write_hour_file",
     "Cause",
     "ClosingDone",
     "Day",
@@ -86,10 +88,11 @@ __all__ = [
     "POSITION_MOST",
     "THRESHOLD_MOST",
     "PRICE_MOST",
+    "WRITE_BYTES_MOST",
 ]
 
 VERSION = 1
-"""The version of the interface that this module is written for."""
+"""The version of the interface that this module is written for. A call that is added leaves it as it is."""
 
 # ---- limits, by the header's names. Every call checks them itself; they are here for who prepares its inputs
 
@@ -106,6 +109,7 @@ POOLING_MOST = 100_000_000  # of either sign
 POSITION_MOST = 100_000_000  # before or after settlement, of either sign
 THRESHOLD_MOST = 1_000_000_000  # upper: 0 to this; lower: minus this to 0
 PRICE_MOST = 10_000_000  # of either sign
+WRITE_BYTES_MOST = 7_833  # lent bytes that are enough for every file: 25, and 61 for each of 128 lines
 
 # ---- what a caller gives and gets
 
@@ -148,6 +152,9 @@ class Cause(IntEnum):
     FILE_FIELD = 15
     FILE_ORDER = 16
     FILE_EMPTY = 17
+    WRITE_COUNT = 18
+    WRITE_NUMBER = 19
+    WRITE_ROOM = 20
 
     @property
     def words(self) -> str:
@@ -174,6 +181,9 @@ _WORDS = {
     Cause.FILE_FIELD: "a field's number or zone letter",
     Cause.FILE_ORDER: "h or z differs from the first line, or g is not the next place below 128",
     Cause.FILE_EMPTY: "no line after the header",
+    Cause.WRITE_COUNT: "the count is not 1 to 128, the zone not 0 or 1, or a list is not of the count's length",
+    Cause.WRITE_NUMBER: "the hour or an amount has more than nine digits or the hour is negative",
+    Cause.WRITE_ROOM: "the lent bytes are too few",
 }
 
 
@@ -336,6 +346,10 @@ class _File(Structure):
     _fields_ = [("cause", c_uint64), ("hour", c_int64), ("zone", c_int64), ("lines", c_int64)]
 
 
+class _Written(Structure):
+    _fields_ = [("cause", c_uint64), ("bytes", c_int64)]
+
+
 _NUMBERS = [POINTER(c_int64), c_size_t]
 _SCRATCH = [POINTER(c_uint64), c_size_t]
 _BYTES = [POINTER(c_uint8), c_size_t]
@@ -346,6 +360,7 @@ _CALLS = {
     "gas_day_settle_hour": ([_Day, *_NUMBERS, _HourTerms, *(6 * _NUMBERS), *_SCRATCH], _Hour),
     "gas_day_close_zone": ([_Day, *_NUMBERS, _ClosingTerms, *(2 * _NUMBERS)], _Closing),
     "gas_day_read_hour_file": ([*_BYTES, *(4 * _NUMBERS)], _File),
+    "gas_day_write_hour_file": ([c_int64, c_int64, c_int64, *(4 * _NUMBERS), *_BYTES], _Written),
 }
 
 
@@ -369,7 +384,9 @@ def _load(path: str) -> ctypes.CDLL:
         if version != VERSION:
             raise ImportError(f"{path} is of version {version}, and this module is written for version {VERSION}")
         for name, (parameters, answer) in _CALLS.items():
-            call = getattr(library, name)
+            call = getattr(library, name, None)
+            if call is None:
+                raise ImportError(f"{path} has no {name}: it is older than this module; bindings/build makes a new one, and GAS_DAY_LIBRARY may name it")
             call.argtypes, call.restype = parameters, answer
     except (OSError, AttributeError) as error:
         raise ImportError(f"the gas_day library cannot be loaded: {error}; bindings/build makes it, and GAS_DAY_LIBRARY may name it") from None
@@ -558,6 +575,20 @@ def read_hour_file(file: Union[bytes, bytearray, memoryview]) -> HourFile:
     area, lists = (c_uint8 * len(data)).from_buffer_copy(data), [_zeros(FILE_PLACES) for _ in range(4)]
     read = _accepted("read_hour_file", _library.gas_day_read_hour_file(*_lent(area, *lists)))
     return HourFile(read.hour, Zone(read.zone), *(amounts[: read.lines] for amounts in lists))
+
+
+def write_hour_file(hour: int, zone: int, *, entry: Numbers, exit: Numbers, title: Numbers, pooling: Numbers, users: Optional[int] = None) -> bytes:
+    """The bytes of an hour's file, in which every line ends in CR LF. The users are as many as the entries, if they are not given. Causes 18 and 19; the lent bytes are
+    this function's own, and enough for every file, so 20 does not come up.
+
+    >>> write_hour_file(1, Zone.L, entry=[14_000_000], exit=[0], title=[0], pooling=[-5])
+    b'h,z,g,EEA,XEA,NCTTN,IPT\\r\\n1,L,0,14000000,0,0,-5\\r\\n'
+    """
+    amounts, area = _amounts(entry, exit, title, pooling), (c_uint8 * WRITE_BYTES_MOST)()
+    count = len(amounts[0]) if users is None else _whole(users, "users")
+    lent = _lent(*amounts, area)
+    written = _accepted("write_hour_file", _library.gas_day_write_hour_file(_whole(hour, "hour"), _whole(zone, "zone"), count, *lent))
+    return bytes(area[: written.bytes])
 
 
 class GasDay:

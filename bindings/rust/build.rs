@@ -1,14 +1,23 @@
 //! Links `libgas_day.a`: from the folder that `GAS_DAY_LIB` names, else from where `bindings/build` puts it.
 
-use std::env;
 use std::path::{Path, PathBuf};
 use std::process::exit;
+use std::{env, fs};
+
+/// The calls that were added since the version's first: an older library lacks them.
+const ADDED: [&str; 1] = ["gas_day_write_hour_file"];
 
 fn folder() -> PathBuf {
     match env::var_os("GAS_DAY_LIB") {
         Some(named) if !named.is_empty() => PathBuf::from(named),
         _ => Path::new(env!("CARGO_MANIFEST_DIR")).join("../../target/bindings/lib"),
     }
+}
+
+/// Whether the library names the call: the name stands in it with a zero byte behind it.
+fn has(library: &[u8], call: &str) -> bool {
+    let name = [call.as_bytes(), b"\0"].concat();
+    library.windows(name.len()).any(|part| part == name)
 }
 
 fn main() {
@@ -22,6 +31,14 @@ fn main() {
     }
     if !library.exists() {
         eprintln!("gas_day: there is no {}: run bindings/build, or set GAS_DAY_LIB to the folder of libgas_day.a", library.display());
+        exit(1);
+    }
+    let bytes = fs::read(&library).unwrap_or_else(|error| {
+        eprintln!("gas_day: {} cannot be read: {error}", library.display());
+        exit(1);
+    });
+    if let Some(call) = ADDED.iter().find(|call| !has(&bytes, call)) {
+        eprintln!("gas_day: {} has no {call}: it is older than this crate; run bindings/build", library.display());
         exit(1);
     }
     println!("cargo:rustc-link-search=native={}", folder.display());

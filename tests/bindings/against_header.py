@@ -26,6 +26,7 @@ STRUCTS = {
     "ClosingTerms": "gas_day_closing_terms",
     "Closing": "gas_day_closing",
     "File": "gas_day_file",
+    "Written": "gas_day_written",
 }
 OF_RUST = {"i64": "int64_t", "u64": "uint64_t", "u8": "uint8_t", "usize": "size_t", **STRUCTS}
 OF_PYTHON = {c_int64: "int64_t", c_uint64: "uint64_t", POINTER(c_int64): "int64_t *", POINTER(c_uint64): "uint64_t *", POINTER(c_uint8): "uint8_t *"}

@@ -34,3 +34,11 @@ gas_day_file gas_day_read_hour_file(const uint8_t *file, size_t file_bytes, int6
     (void)titles, (void)titles_places, (void)poolings, (void)poolings_places;
     return (gas_day_file){.cause = 99};
 }
+
+gas_day_written gas_day_write_hour_file(int64_t hour, int64_t zone, int64_t users, const int64_t *entry, size_t entry_places, const int64_t *exit,
+                                        size_t exit_places, const int64_t *title, size_t title_places, const int64_t *pooling, size_t pooling_places,
+                                        uint8_t *file, size_t file_bytes) {
+    (void)hour, (void)zone, (void)users, (void)entry, (void)entry_places, (void)exit, (void)exit_places, (void)title, (void)title_places;
+    (void)pooling, (void)pooling_places, (void)file, (void)file_bytes;
+    return (gas_day_written){.cause = UINT64_C(1) << 32 | GAS_DAY_CAUSE_WRITE_COUNT};
+}

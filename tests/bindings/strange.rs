@@ -32,14 +32,20 @@ fn read() {
     let _ = gas_day::read_hour_file(b"", lists);
 }
 
+fn write() {
+    let amounts = Amounts { entry: &[0], exit: &[0], title: &[0], pooling: &[0] };
+    let _ = gas_day::write_hour_file(0, 0, 1, amounts, &mut []);
+}
+
 fn main() {
     set_hook(Box::new(|_| ()));
-    let calls: [(&str, fn()); 5] = [
+    let calls: [(&str, fn()); 6] = [
         ("open", open),
         ("default_thresholds", thresholds),
         ("settle_hour", settle),
         ("close_zone", close),
         ("read_hour_file", read),
+        ("write_hour_file", write),
     ];
     for (name, call) in calls.into_iter().chain(calls) {
         let words = catch_unwind(call).map_err(|words| words.downcast_ref::<String>().cloned());

@@ -1,9 +1,10 @@
-//! Calls made up at random: whole days with their conservation sums, single odd calls, openings, thresholds and files.
+//! Calls made up at random: whole days with their conservation sums, single odd calls, openings, thresholds, files and writings.
 
 use crate::both::Run;
 use ordinary::made_up::{self, Kind};
 use ordinary::random::Random;
 use ordinary::spoilt::Call;
+use ordinary::spoilt_writing::{fit_writing, Writing, ROOMS};
 
 /// A call of hour 1 of the H zone; what it is given is made up later.
 fn first_hour(day: ordinary::Day, table: Vec<i64>, random: &mut Random) -> Call {
@@ -178,6 +179,42 @@ pub fn files(run: &mut Run, seed: u64, rounds: usize) {
             lengths[random.below(4)] = random.pick([0, 127, 129]);
         }
         run.file(&file, lengths);
+    }
+}
+
+/// Writings, with rooms of every kind, and with something odd about them.
+pub fn writings(run: &mut Run, seed: u64, rounds: usize) {
+    let mut random = Random::new(seed);
+    for round in 0..rounds {
+        run.at = format!("writings, seed {seed}, round {round}");
+        let users = random.pick([1, 1, 2, 3, 9, 10, 11, 99, 100, 101, 127, 128]);
+        let (room, more) = random.pick(ROOMS);
+        let mut writing = fit_writing(&mut random, users, more);
+        if run.writing(&mut writing.clone()) == 0 {
+            run.counts.count("accepted writings by room", room);
+        }
+        for _ in 0..random.below(3) {
+            odd_writing(&mut random, &mut writing);
+        }
+        run.writing(&mut writing);
+    }
+}
+
+/// Makes one thing of a writing odd.
+fn odd_writing(random: &mut Random, writing: &mut Writing) {
+    let number = made_up::odd_number(random);
+    let list = random.below(4);
+    match random.below(8) {
+        0 => writing.hour = number,
+        1 => writing.zone = random.pick([0, 1, 2, number]),
+        2 => writing.users = random.pick([0, 1, 128, 129, number]),
+        3 => writing.lists[list].resize(random.pick([0, 1, 127, 128, 129]), number),
+        4 => writing.lists.iter_mut().for_each(|list| list.resize(writing.users.clamp(0, 130) as usize, 1)),
+        5 => writing.file.truncate(random.below(writing.file.len() + 1)),
+        _ => {
+            let place = random.below(writing.lists[list].len());
+            writing.lists[list].iter_mut().skip(place).take(1).for_each(|amount| *amount = number);
+        }
     }
 }
 

@@ -4,6 +4,7 @@
 use crate::counts::Counts;
 use gas_day::{Amounts, Cause, ClosingTerms, Day, HourTerms, FileLists, Outputs, ZoneDay};
 use ordinary::spoilt::Call;
+use ordinary::spoilt_writing::Writing;
 use ordinary::{Outcome, Side, Terms};
 
 /// Where the comparison is, for the words of a difference, and what it has counted.
@@ -116,6 +117,36 @@ fn library_closing(call: &mut Call) -> ClosingAnswer {
     answer.map_or_else(|cause| (cause.number(), 0, 0), |closed| (0, closed.sold, closed.bought))
 }
 
+/// Of a writing: the bytes that were written, or the cause.
+fn library_writing(writing: &mut Writing) -> Result<i64, u64> {
+    let [entry, exit, title, pooling] = &writing.lists;
+    let amounts = Amounts {
+        entry,
+        exit,
+        title,
+        pooling,
+    };
+    let answer = gas_day::write_hour_file(writing.hour, writing.zone, writing.users, amounts, &mut writing.file);
+    answer.map(|bytes| bytes as i64).map_err(Cause::number)
+}
+
+/// What the library reads: hour, zone and lines, or the cause; and lists of these lengths, which held -7 at each place.
+type Read = (Result<(i64, i64, i64), u64>, [Vec<i64>; 4]);
+
+fn library_read(bytes: &[u8], lengths: [usize; 4]) -> Read {
+    let mut lists = lengths.map(|length| vec![-7; length]);
+    let [entries, exits, titles, poolings] = &mut lists;
+    let lent = FileLists {
+        entries,
+        exits,
+        titles,
+        poolings,
+    };
+    let read = gas_day::read_hour_file(bytes, lent);
+    let answer = read.map(|file| (file.hour, file.zone, file.lines as i64)).map_err(Cause::number);
+    (answer, lists)
+}
+
 impl Run {
     /// An hour, from the same state; the call is left as the library left it. Answers the cause.
     pub fn hour(&mut self, call: &mut Call) -> u64 {
@@ -174,27 +205,69 @@ impl Run {
         cause
     }
 
-    /// A file, read into lists of these lengths. Answers the cause.
+    /// A file, read into lists of these lengths; one that is read and ends in CR LF is also written again. Answers the cause.
     pub fn file(&mut self, bytes: &[u8], lengths: [usize; 4]) -> u64 {
         let before = lengths.map(|length| vec![-7_i64; length]);
-        let (mut lists, mut others) = (before.clone(), before.clone());
+        let mut others = before.clone();
         let [a, b, c, d] = &mut others;
         let expected = ordinary::read_file(bytes, a, b, c, d);
-        let [entries, exits, titles, poolings] = &mut lists;
-        let lent = FileLists {
-            entries,
-            exits,
-            titles,
-            poolings,
-        };
-        let read = gas_day::read_hour_file(bytes, lent);
-        let found = read.map(|file| (file.hour, file.zone, file.lines as i64)).map_err(Cause::number);
+        let (found, lists) = library_read(bytes, lengths);
         if (found, &lists) != (expected, &others) || (found.is_err() && lists != before) {
             let shown = String::from_utf8_lossy(&bytes[..bytes.len().min(400)]);
             panic!("{}: a file differs\n{shown:?}\nlengths {lengths:?}\nthe library: {found:?}\nthe ordinary one: {expected:?}", self.at);
         }
+        if let (Ok(read), true) = (found, bytes.ends_with(b"\r\n")) {
+            self.written_again(bytes, read, lists);
+        }
         let cause = found.err().unwrap_or(0);
         self.counts.call("files by cause", cause);
         cause
+    }
+
+    /// What was read from these bytes is written to the same bytes, into exactly as many.
+    fn written_again(&mut self, bytes: &[u8], (hour, zone, lines): (i64, i64, i64), lists: [Vec<i64>; 4]) {
+        let mut writing = Writing {
+            hour,
+            zone,
+            users: lines,
+            lists: lists.map(|list| list[..lines as usize].to_vec()),
+            file: vec![0; bytes.len()],
+        };
+        let cause = self.writing(&mut writing);
+        if (cause, &writing.file[..]) != (0, bytes) {
+            panic!("{}: a file that is written again differs\n{:?}\n{writing:?}", self.at, String::from_utf8_lossy(bytes));
+        }
+        self.counts.count("files that were read", "and written again");
+    }
+
+    /// A writing; what is written is read back. The writing is left as the library left it. Answers the cause.
+    pub fn writing(&mut self, writing: &mut Writing) -> u64 {
+        let before = writing.clone();
+        let mut other = writing.clone();
+        let expected = other.write();
+        let found = library_writing(writing);
+        if (found, &*writing) != (expected, &other) {
+            panic!("{}: a writing differs\ngiven {before:?}\nthe library: {found:?} {writing:?}\nthe ordinary one: {expected:?} {other:?}", self.at);
+        }
+        match found {
+            Ok(bytes) => self.read_back(writing, bytes as usize, &before),
+            Err(_) => assert!(*writing == before, "{}: a writing that was refused changed something\ngiven {before:?}", self.at),
+        }
+        let cause = found.err().unwrap_or(0);
+        self.counts.call("writings by cause", cause);
+        cause
+    }
+
+    /// The text is read to the same hour, zone, count and amounts, and to no more; the bytes after it, and all else that was lent, are as they were.
+    fn read_back(&self, writing: &Writing, bytes: usize, before: &Writing) {
+        let (text, rest) = writing.file.split_at(bytes);
+        let (found, lists) = library_read(text, [128; 4]);
+        let places = before.lists.each_ref().map(|list| [&list[..], &vec![-7; 128 - list.len()]].concat());
+        if (found, lists) != (Ok((before.hour, before.zone, before.users)), places) {
+            panic!("{}: a written file differs when it is read back: {found:?}\ngiven {before:?}", self.at);
+        }
+        if (rest, &writing.lists) != (&before.file[bytes..], &before.lists) {
+            panic!("{}: a writing that was accepted changed more than its text: what it was lent differs\ngiven {before:?}", self.at);
+        }
     }
 }

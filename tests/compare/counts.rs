@@ -3,6 +3,7 @@
 use ordinary::made_up::Kind;
 use ordinary::spoilt::{closing_ways, hour_ways, Way};
 use ordinary::spoilt_file;
+use ordinary::spoilt_writing::{ROOMS, WRITING_WAYS};
 
 const LEAST_OF_A_KIND: u64 = 1_000;
 const LEAST_OF_A_SIDE: u64 = 5_000;
@@ -68,12 +69,15 @@ impl Counts {
         let rows = vec![
             row("accepted hours by kind", LEAST_OF_A_KIND, Kind::ALL.map(|kind| format!("{kind:?}"))),
             row("accepted hours by side", LEAST_OF_A_SIDE, ["within", "excess", "shortfall"]),
-            row("accepted calls", LEAST_ACCEPTED, ["hours", "closings", "openings", "thresholds", "files"]),
+            row("accepted calls", LEAST_ACCEPTED, ["hours", "closings", "openings", "thresholds", "files", "writings"]),
+            row("accepted writings by room", LEAST_ACCEPTED, ROOMS.map(|(name, _)| name)),
+            row("files that were read", LEAST_ACCEPTED, ["and written again"]),
             row("hours by cause", LEAST_OF_A_CAUSE, 2..=11),
             row("closings by cause", LEAST_OF_A_CAUSE, 2..=8),
             row("openings by cause", LEAST_OF_A_CAUSE, [1, 3]),
             row("thresholds by cause", LEAST_OF_A_CAUSE, [4, 8]),
             row("files by cause", LEAST_OF_A_CAUSE, 12..=17),
+            row("writings by cause", LEAST_OF_A_CAUSE, 18..=20),
             parts("hours of zone H by part of a cause", &hour_ways()),
             parts("hours of zone L by part of a cause", &hour_ways()),
             parts("closings of zone H by part of a cause", &closing_ways()),
@@ -81,6 +85,8 @@ impl Counts {
             row("openings by part of a cause", LEAST_OF_A_PART, ["1 users below 1", "1 users above 128", "3 table too short", "3 table too long"]),
             row("thresholds by part of a cause", LEAST_OF_A_PART, ["4 zone below 0", "4 zone above 1", "8 month below 1", "8 month above 12"]),
             row("files by part of a cause", LEAST_OF_A_PART, spoilt_file::WAYS.iter().map(|way| part_name(way.cause, way.part))),
+            row("writings of zone H by part of a cause", LEAST_OF_A_PART, WRITING_WAYS.iter().map(|way| part_name(way.cause, way.part))),
+            row("writings of zone L by part of a cause", LEAST_OF_A_PART, WRITING_WAYS.iter().map(|way| part_name(way.cause, way.part))),
             pairs_row("hours by pair of causes", &pairs(2..=11)),
             pairs_row("closings by pair of causes", &closing_pairs()),
             pairs_row("openings by pair of causes", &[(1, 3)]),
@@ -88,6 +94,7 @@ impl Counts {
             pairs_row("files by pair of causes", &FILE_PAIRS),
             pairs_row("files by pair of causes in one line", &LINE_PAIRS),
             pairs_row("files by pair of causes in two lines, the first line's first", &TWO_LINES),
+            pairs_row("writings by pair of causes", &pairs(18..=20)),
         ];
         Counts { rows, calls: 0 }
     }

@@ -15,6 +15,9 @@ fn main() {
         at: String::new(),
         counts: Counts::new(),
     };
+    // some writings first, and most of them last: so a wrong settlement is told as soon as a wrong writer is
+    at_random::writings(&mut run, 12, 2_000);
+    on_purpose::writings(&mut run, 14, 20);
     for seed in [1, 2, 3] {
         at_random::days(&mut run, seed, 1_000);
     }
@@ -29,8 +32,10 @@ fn main() {
     on_purpose::hours_and_closings(&mut run, 9, 400);
     on_purpose::small_calls(&mut run, 10, 400);
     on_purpose::files(&mut run, 11, 400);
+    at_random::writings(&mut run, 13, 20_000);
+    on_purpose::writings(&mut run, 15, 400);
 
-    println!("seeds: 1 to 3 days, 4 and 5 odd calls, 6 openings and thresholds, 7 and 8 files, 9 to 11 calls spoilt on purpose");
+    println!("seeds: 1 to 3 days, 4 and 5 odd calls, 6 openings and thresholds, 7 and 8 files, 12 and 13 writings, 9 to 11, 14 and 15 calls spoilt on purpose");
     let short = run.counts.print();
     if short > 0 {
         println!("compared: {} calls, {short} numbers below their least", run.counts.calls);

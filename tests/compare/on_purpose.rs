@@ -2,10 +2,11 @@
 
 use crate::both::Run;
 use crate::counts::{closing_pairs, pair_name, pairs, part_name, FILE_PAIRS, LINE_PAIRS, TWO_LINES};
-use ordinary::present::{closing_causes, hour_causes};
+use ordinary::present::{closing_causes, hour_causes, writing_causes};
 use ordinary::random::Random;
 use ordinary::spoilt::{closing_ways, fit_closing, fit_hour, hour_ways, Call, Way};
 use ordinary::spoilt_file::{fit_file, File, FileWay, WAYS};
+use ordinary::spoilt_writing::{fit_writing, Writing, WritingWay, ROOMS, WRITING_WAYS};
 
 /// What differs between hours and closings.
 struct Calls {
@@ -216,5 +217,59 @@ fn two_lines(run: &mut Run, random: &mut Random, (first, second): (u64, u64)) {
     (way_of(random, first).spoil)(random, &mut file, earlier);
     if earlier < later && alone == second && read(run, &file) == first {
         run.counts.count("files by pair of causes in two lines, the first line's first", &pair_name((first, second)));
+    }
+}
+
+/// Writings, each spoilt in one way and then in two.
+pub fn writings(run: &mut Run, seed: u64, rounds: usize) {
+    let mut random = Random::new(seed);
+    run.at = format!("writings on purpose, seed {seed}");
+    for _ in 0..rounds {
+        for zone in [0, 1] {
+            WRITING_WAYS.iter().for_each(|way| writing_once(run, &mut random, zone, way));
+        }
+        pairs(18..=20).into_iter().for_each(|pair| writing_twice(run, &mut random, pair));
+    }
+}
+
+fn some_writing(random: &mut Random) -> Writing {
+    let any = 1 + random.below(128);
+    let users = random.pick([1, 2, 3, 10, 11, 127, 128, any]);
+    let (_, more) = random.pick(ROOMS);
+    fit_writing(random, users, more)
+}
+
+/// It is refused by the first cause that applies, which is answered with all that do.
+fn spoilt_writing(run: &mut Run, writing: &mut Writing) -> (u64, Vec<u64>) {
+    let causes = writing_causes(writing);
+    let cause = run.writing(writing);
+    assert_eq!(cause, causes.first().copied().unwrap_or(0), "{}: not the first cause that applies", run.at);
+    (cause, causes)
+}
+
+/// The writing is accepted as it is, and refused by the way's cause once it is spoilt.
+fn writing_once(run: &mut Run, random: &mut Random, zone: usize, way: &WritingWay) {
+    let mut writing = Writing {
+        zone: zone as i64,
+        ..some_writing(random)
+    };
+    assert_eq!(run.writing(&mut writing.clone()), 0, "{}: a fit writing was refused", run.at);
+    (way.spoil)(random, &mut writing);
+    let rows = ["writings of zone H by part of a cause", "writings of zone L by part of a cause"];
+    if spoilt_writing(run, &mut writing).0 == way.cause {
+        run.counts.count(rows[zone], &part_name(way.cause, way.part));
+    }
+}
+
+/// The writing is spoilt by the higher cause and then by the lower one. It counts if both apply then and none below them does.
+fn writing_twice(run: &mut Run, random: &mut Random, (lower, higher): (u64, u64)) {
+    let mut writing = some_writing(random);
+    for cause in [higher, lower] {
+        let ways: Vec<&WritingWay> = WRITING_WAYS.iter().filter(|way| way.cause == cause).collect();
+        (ways[random.below(ways.len())].spoil)(random, &mut writing);
+    }
+    let (cause, causes) = spoilt_writing(run, &mut writing);
+    if cause == lower && causes.contains(&higher) {
+        run.counts.count("writings by pair of causes", &pair_name((lower, higher)));
     }
 }

@@ -17,6 +17,7 @@ STRUCTS = {
     "ClosingTerms": "gas_day_closing_terms",
     "ClosingC": "gas_day_closing",
     "FileC": "gas_day_file",
+    "WrittenC": "gas_day_written",
 }
 
 

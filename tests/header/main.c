@@ -386,6 +386,134 @@ static void files(void) {
     file_refused(HEADING, GAS_DAY_FILE_PLACES, GAS_DAY_CAUSE_FILE_EMPTY);
 }
 
+/* ---- the hour's file, written from the reader's lists */
+
+static uint8_t written[GAS_DAY_WRITE_BYTES_MOST + 1];
+
+typedef struct {
+    int64_t hour, zone, users;
+    size_t places[4], bytes;
+} writing;
+
+/* The four lists to their count's length, and all the bytes. */
+static writing writing_of(int64_t hour, int64_t zone, size_t users) {
+    writing w = {hour, zone, (int64_t)users, {users, users, users, users}, sizeof written};
+    return w;
+}
+
+static writing without_bytes(int64_t hour, int64_t zone, size_t users) {
+    writing w = writing_of(hour, zone, users);
+    w.bytes = 0;
+    return w;
+}
+
+static const int64_t *list(writing w, int i) { return w.places[i] == 0 ? NULL : lists[i]; }
+
+/* Into bytes that hold something else. No list is touched. */
+static gas_day_written write_file(writing w) {
+    static int64_t before[4][GAS_DAY_FILE_PLACES + 1];
+    memcpy(before, lists, sizeof lists);
+    memset(written, ODD, sizeof written);
+    gas_day_written answer = gas_day_write_hour_file(w.hour, w.zone, w.users, list(w, 0), w.places[0], list(w, 1), w.places[1], list(w, 2), w.places[2],
+                                                     list(w, 3), w.places[3], w.bytes == 0 ? NULL : written, w.bytes);
+    IS(memcmp(before, lists, sizeof lists), 0);
+    return answer;
+}
+
+static int untouched_from(size_t byte) {
+    while (byte < sizeof written && written[byte] == ODD) byte++;
+    return byte == sizeof written;
+}
+
+/* The text is written, and no byte after it. */
+static void write_accepted(writing w, const char *text) {
+    gas_day_written answer = write_file(w);
+    IS(answer.cause, GAS_DAY_ACCEPTED);
+    IS(answer.bytes, strlen(text));
+    IS(memcmp(written, text, strlen(text)), 0);
+    IS(untouched_from(strlen(text)), 1);
+}
+
+static void write_refused(writing w, uint64_t cause) {
+    gas_day_written answer = write_file(w);
+    IS(answer.cause, cause);
+    IS(answer.bytes, 0);
+    IS(untouched_from(0), 1);
+}
+
+/* Cause 18: numbers that the count, the zone and the lists' lengths may not have, all with an entry of ten digits, if there is one, and no bytes. */
+static void wrong_counts(writing fit) {
+    fit.bytes = 0;
+    lists[0][0] = 1000000000;
+    for (int i = 0; i < 4; i++) {
+        writing w = fit;
+        w.places[i]++;
+        write_refused(w, GAS_DAY_CAUSE_WRITE_COUNT);
+        w.places[i] -= 2;
+        write_refused(w, GAS_DAY_CAUSE_WRITE_COUNT);
+    }
+    write_refused(without_bytes(fit.hour, 2, 3), GAS_DAY_CAUSE_WRITE_COUNT);
+    write_refused(without_bytes(fit.hour, -1, 3), GAS_DAY_CAUSE_WRITE_COUNT);
+    write_refused(without_bytes(fit.hour, 0, GAS_DAY_USERS_LEAST - 1), GAS_DAY_CAUSE_WRITE_COUNT);
+    write_refused(without_bytes(fit.hour, 0, GAS_DAY_USERS_MOST + 1), GAS_DAY_CAUSE_WRITE_COUNT);
+    fit.users = -3;
+    write_refused(fit, GAS_DAY_CAUSE_WRITE_COUNT);
+    lists[0][0] = 1;
+}
+
+/* Cause 19: the hour and each list's amount with a digit too many, and an hour below 0, all with no bytes. */
+static void wrong_numbers(writing fit) {
+    static const int64_t odd[] = {1000000000, -1000000000, INT64_MAX, INT64_MIN};
+    fit.bytes = 0;
+    for (size_t n = 0; n < sizeof odd / sizeof *odd; n++) {
+        for (int i = 0; i < 4; i++) {
+            int64_t kept = lists[i][2];
+            lists[i][2] = odd[n];
+            write_refused(fit, GAS_DAY_CAUSE_WRITE_NUMBER);
+            lists[i][2] = kept;
+        }
+        write_refused(without_bytes(odd[n], fit.zone, 3), GAS_DAY_CAUSE_WRITE_NUMBER);
+    }
+    write_refused(without_bytes(-1, fit.zone, 3), GAS_DAY_CAUSE_WRITE_NUMBER);
+}
+
+/* Every number of nine digits, and a minus where there may be one: 58 bytes a line and its place, 274 digits for the 128 places. It is read again. */
+static void longest_file(void) {
+    for (int i = 0; i < 4; i++)
+        for (int g = 0; g < GAS_DAY_USERS_MOST; g++) lists[i][g] = -999999999 + 4 * g + i;
+    gas_day_written answer = write_file(writing_of(999999999, 1, GAS_DAY_USERS_MOST));
+    IS(answer.cause, GAS_DAY_ACCEPTED);
+    IS(answer.bytes, 25 + 58 * 128 + 274);
+    IS(untouched_from((size_t)answer.bytes), 1);
+    IS(GAS_DAY_WRITE_BYTES_MOST, 25 + 61 * 128);
+    written[answer.bytes] = 0;
+    gas_day_file file = read_file((const char *)written, GAS_DAY_FILE_PLACES);
+    IS(file.cause, GAS_DAY_ACCEPTED);
+    IS(file.hour, 999999999);
+    IS(file.zone, 1);
+    IS(file.lines, GAS_DAY_USERS_MOST);
+    for (int i = 0; i < 4; i++)
+        for (int g = 0; g < GAS_DAY_USERS_MOST; g++) IS(lists[i][g], -999999999 + 4 * g + i);
+}
+
+static void written_files(void) {
+    static const char text[] = HEADING "19,L,0,1,-2,3,-4\r\n19,L,1,5,-6,7,-8\r\n19,L,2,9,-10,11,-12\r\n";
+    for (int i = 0; i < 4; i++)
+        for (int g = 0; g <= GAS_DAY_FILE_PLACES; g++) lists[i][g] = (i % 2 == 0 ? 1 : -1) * (4 * g + i + 1);
+    writing fit = writing_of(19, 1, 3);
+    write_accepted(fit, text);
+    wrong_counts(fit);
+    wrong_numbers(fit);
+    fit.bytes = strlen(text);
+    write_accepted(fit, text);
+    fit.bytes--;
+    write_refused(fit, GAS_DAY_CAUSE_WRITE_ROOM);
+    fit.bytes = 0;
+    write_refused(fit, GAS_DAY_CAUSE_WRITE_ROOM);
+    write_accepted(writing_of(0, 0, 1), HEADING "0,H,0,1,-2,3,-4\r\n");
+    longest_file();
+}
+
 int main(void) {
     IS(gas_day_version(), GAS_DAY_VERSION);
     openings();
@@ -398,6 +526,7 @@ int main(void) {
     records(day);
     empty_areas(day);
     files();
+    written_files();
     printf("header: %d checks, %d wrong\n", checks, wrong);
     return wrong == 0 ? EXIT_SUCCESS : EXIT_FAILURE;
 }

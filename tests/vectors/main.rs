@@ -1,10 +1,12 @@
 //! Calls and what the ordinary settlement answers, one a line as JSON, for the test of a binding that is not written in Rust: openings, thresholds, whole days call by
-//! call, hours and closings spoilt in every way, and files. What a binding lends of its own (quantity, money, scratch, the reader's lists) is always of the right length.
+//! call, hours and closings spoilt in every way, files, and writings. What a binding lends of its own (quantity, money, scratch, the reader's lists, the writer's bytes) is
+//! always of the right length, or enough.
 
 use ordinary::made_up::{self, Kind};
 use ordinary::random::Random;
 use ordinary::spoilt::{closing_ways, fit_closing, fit_hour, hour_ways, Call};
 use ordinary::spoilt_file::{fit_file, WAYS};
+use ordinary::spoilt_writing::{fit_writing, Writing, WRITING_WAYS};
 use ordinary::{Day, Outcome, Side};
 
 /// Whether a call goes on with the day of the line before.
@@ -96,6 +98,16 @@ fn file(bytes: &[u8]) {
     println!(r#""entry": {:?}, "exit": {:?}, "title": {:?}, "pooling": {:?}}}"#, &entry[..lines], &exit[..lines], &title[..lines], &pooling[..lines]);
 }
 
+fn writing(mut writing: Writing) {
+    writing.file = vec![0; 7_833];
+    let answer = writing.write();
+    let (cause, bytes) = (answer.err().unwrap_or(0), answer.unwrap_or(0) as usize);
+    let [entry, exit, title, pooling] = &writing.lists;
+    print!(r#"{{"call": "write_hour_file", "hour": {}, "zone": {}, "users": {}, "#, writing.hour, writing.zone, writing.users);
+    print!(r#""entry": {entry:?}, "exit": {exit:?}, "title": {title:?}, "pooling": {pooling:?}, "#);
+    println!(r#""cause": {cause}, "file": {:?}}}"#, &writing.file[..bytes]);
+}
+
 /// A whole day: all hours of both zones, mixed and of every kind, spoilt ones among them; closings that come too early, in time and twice.
 fn day(random: &mut Random, users: usize) {
     opening(users as i64);
@@ -147,6 +159,14 @@ fn main() {
             let at = random.below(lines);
             (way.spoil)(&mut random, &mut spoilt, at);
             file(&spoilt.bytes());
+        }
+    }
+    for users in [1, 2, 3, 10, 11, 127, 128] {
+        (0..4).for_each(|_| writing(fit_writing(&mut random, users, 0)));
+        for way in WRITING_WAYS.iter().filter(|way| way.cause != 20) {
+            let mut spoilt = fit_writing(&mut random, users, 0);
+            (way.spoil)(&mut random, &mut spoilt);
+            writing(spoilt);
         }
     }
 }

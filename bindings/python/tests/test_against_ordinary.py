@@ -16,6 +16,7 @@ CAUSES = {
     "settle_hour": [0, *range(2, 12)],
     "close_zone": [0, *range(2, 9)],
     "read_hour_file": [0, *range(13, 18)],
+    "write_hour_file": [0, 18, 19],
 }
 
 
@@ -88,6 +89,17 @@ class AgainstOrdinary(unittest.TestCase):
         refused = (vector["cause"], "read_hour_file")
         read = HourFile(vector["hour"], Zone(vector["zone"]), *(vector[kind] for kind in LISTS))
         self.assertEqual(answer(gas_day.read_hour_file, bytes(vector["file"])), refused if vector["cause"] else read)
+
+    def write_hour_file(self, vector):
+        """With the users that are given; and without, if they are as many as the entries. A file that is written is read to the same again."""
+        terms, lists = (vector["hour"], vector["zone"]), {kind: vector[kind] for kind in LISTS}
+        expected = (vector["cause"], "write_hour_file") if vector["cause"] else bytes(vector["file"])
+        self.assertEqual(answer(gas_day.write_hour_file, *terms, users=vector["users"], **lists), expected)
+        arrays = {kind: array("q", numbers) for kind, numbers in lists.items()}
+        if vector["users"] == len(vector["entry"]):
+            self.assertEqual(answer(gas_day.write_hour_file, *terms, **arrays), expected)
+        if not vector["cause"]:
+            self.assertEqual(gas_day.read_hour_file(expected), HourFile(vector["hour"], Zone(vector["zone"]), **lists))
 
 
 if __name__ == "__main__":

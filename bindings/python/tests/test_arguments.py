@@ -7,7 +7,7 @@ from fractions import Fraction
 
 import gas_day
 from gas_day import Day, GasDay, HourFile, State, Thresholds, Zone, ZoneDay
-from worked import FILE_A, NONE, PRICES, amounts, closing_of, hour_of, idle_hour
+from worked import FILE_A, NONE, PRICES, amounts, closing_of, hour_of, idle_hour, written
 
 NOT_WHOLE = [1.0, 0.5, float("nan"), None, "1", b"1", Decimal(1), Fraction(1), 1j, [1], object()]
 BEYOND = [2**63, -(2**63) - 1, 2**64, 2**64 + 1, -(2**64), 10**30]
@@ -56,6 +56,12 @@ PLACES = {
     "closing's table": (7, lambda x: closing_of(table=[x] + 255 * [0])),
     "zone of a GasDay's closing": (4, lambda x: GasDay(2).close_zone(x, **PRICES)),
     "zone of positions": (4, lambda x: GasDay(2).positions(x)),
+    "written hour": (19, lambda x: written(hour=x)),
+    "written zone": (18, lambda x: written(zone=x)),
+    "written entry": (19, lambda x: written(entry=[0, x])),
+    "written exit": (19, lambda x: written(exit=[x, 0])),
+    "written title amount": (19, lambda x: written(title=(0, x))),
+    "written pooling amount": (19, lambda x: written(pooling=[x, 0])),
     "resumed record": (0, lambda x: GasDay.resume(State(Day(x), 256 * [0]))),
     "resumed table": (0, lambda x: GasDay.resume(State(Day(2), 255 * [0] + [x]))),
 }
@@ -109,6 +115,21 @@ class SingleNumbers(unittest.TestCase):
         self.assertEqual(hour_of(entry=[Index(5), True], thresholds=NONE).quantity, [5, 1])
 
 
+    def test_the_users_of_a_file(self):
+        """None is what they are if they are not given: as many as the entries."""
+        self.assertEqual(written(users=Index(2)), written(users=None))
+        for wrong in (wrong for wrong in NOT_WHOLE if wrong is not None):
+            with self.subTest(given=wrong), self.assertRaisesRegex(TypeError, "^users is to be an int"):
+                written(users=wrong)
+        for wrong in BEYOND:
+            with self.subTest(given=wrong), self.assertRaises(OverflowError):
+                written(users=wrong)
+        for edge in EDGES:
+            with self.subTest(given=edge), self.assertRaises(gas_day.Refusal) as refused:
+                written(users=edge)
+            self.assertEqual(refused.exception.number, 18)
+
+
 class Lists(unittest.TestCase):
     def test_what_is_no_list(self):
         wrong = [None, 3, 1.5, "12", b"12", bytearray(2), memoryview(b"12"), {0, 1}, {0: 1, 1: 2}, iter([0, 0]), range(2), object()]
@@ -116,6 +137,9 @@ class Lists(unittest.TestCase):
             for kind in ("entry", "exit", "title", "pooling", "table"):
                 with self.subTest(kind=kind, given=given), self.assertRaises(TypeError):
                     hour_of(**{kind: given} if given is not None or kind != "table" else {"table": 0})
+            for kind in ("entry", "exit", "title", "pooling"):
+                with self.subTest(written=kind, given=given), self.assertRaises(TypeError):
+                    written(**{kind: given})
             with self.subTest(given=given), self.assertRaises(TypeError):
                 GasDay.resume(State(Day(2), given))
 
@@ -198,6 +222,8 @@ class OtherTypes(unittest.TestCase):
     def test_amounts_go_by_name(self):
         with self.assertRaises(TypeError):
             GasDay(1).settle_hour(Zone.H, 1, NONE, 0, 0, [0], [0], [0], [0])
+        with self.assertRaises(TypeError):
+            gas_day.write_hour_file(1, Zone.H, [0], [0], [0], [0])
 
 
 if __name__ == "__main__":

@@ -70,11 +70,33 @@ class CaseA(unittest.TestCase):
         self.assertEqual(repr(day), f"<GasDay {done.day!r}>")
 
 
+class WrittenFiles(unittest.TestCase):
+    def test_case_a(self):
+        self.assertEqual(gas_day.write_hour_file(1, Zone.H, entry=ENTRY, exit=EXIT, title=[0, 0, 0], pooling=[0, 0, 0]), FILE_A)
+        given = {"entry": array("q", ENTRY), "exit": array("i", EXIT), "title": (0, 0, 0), "pooling": [0, 0, 0]}
+        self.assertEqual(gas_day.write_hour_file(hour=1, zone=0, users=3, **given), FILE_A)
+
+    def test_every_amount(self):
+        given = {"entry": [1, 999_999_999], "exit": [-2, -999_999_999], "title": [3, 0], "pooling": [-4, 10]}
+        file = gas_day.write_hour_file(999_999_999, Zone.L, **given)
+        self.assertIs(type(file), bytes)
+        self.assertEqual(file, HEADER + b"999999999,L,0,1,-2,3,-4\r\n999999999,L,1,999999999,-999999999,0,10\r\n")
+        self.assertEqual(gas_day.read_hour_file(file), HourFile(999_999_999, Zone.L, **given))
+        self.assertEqual(given, {"entry": [1, 999_999_999], "exit": [-2, -999_999_999], "title": [3, 0], "pooling": [-4, 10]})
+
+    def test_of_every_number_of_users(self):
+        for users in range(1, 129):
+            lists = [[sign * ((7 * place + 1) ** power % 10**9) for place in range(users)] for power, sign in ((1, 1), (2, -1), (3, 1), (4, -1))]
+            expected = HourFile(users - 1, Zone(users % 2), *lists)
+            given = {kind: getattr(expected, kind) for kind in ("entry", "exit", "title", "pooling")}
+            self.assertEqual(gas_day.read_hour_file(gas_day.write_hour_file(users - 1, users % 2, **given)), expected)
+
+
 class Documentation(unittest.TestCase):
     def test_its_examples(self):
         found = doctest.testmod(gas_day)
         self.assertEqual(found.failed, 0)
-        self.assertGreaterEqual(found.attempted, 13)
+        self.assertGreaterEqual(found.attempted, 14)
 
 
 class WholeDay(unittest.TestCase):

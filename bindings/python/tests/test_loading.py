@@ -89,8 +89,17 @@ class Loading(unittest.TestCase):
     def test_another_library(self):
         library = self.built("other.so", "int other;")
         self.assertRegex(imported(MODULE, GAS_DAY_LIBRARY=library), "^ImportError: the gas_day library cannot be loaded: .*gas_day_version")
-        library = self.built("half.so", f"unsigned long gas_day_version(void) {{ return {VERSION}; }}")
-        self.assertRegex(imported(MODULE, GAS_DAY_LIBRARY=library), "^ImportError: the gas_day library cannot be loaded: .*gas_day_open")
+
+    def test_an_older_library_of_this_version(self):
+        """Each lacks what was added after it."""
+        calls = list(gas_day._CALLS)
+        for number, lacking in enumerate(calls):
+            others = "".join(f"void {call}(void) {{}} " for call in calls[:number])
+            library = self.built(f"older{number}.so", f"unsigned long gas_day_version(void) {{ return {VERSION}; }} {others}")
+            words = f"{library} has no {lacking}: it is older than this module; bindings/build makes a new one, and GAS_DAY_LIBRARY may name it"
+            self.assertEqual(imported(MODULE, GAS_DAY_LIBRARY=library), f"ImportError: {words}")
+        done = run(MODULE, "-m", "gas_day", "--help", GAS_DAY_LIBRARY=library)
+        self.assertEqual((done.returncode, done.stdout, done.stderr), (2, "", f"gas_day: {words}\n"))
 
 
 if __name__ == "__main__":

@@ -1,6 +1,6 @@
 """What the tests share: case A, calls in short, and every cause with a call that is refused by it."""
 
-from gas_day import GasDay, Thresholds, Zone, ZoneDay, Day, close_zone, default_thresholds, open_day, read_hour_file, settle_hour
+from gas_day import GasDay, Thresholds, Zone, ZoneDay, Day, close_zone, default_thresholds, open_day, read_hour_file, settle_hour, write_hour_file
 
 ENTRY, EXIT = [30_000_000, 15_000_000, 2_000_000], [-10_000_000, -5_000_000, -5_000_000]
 PRICES = {"excess_price": 20_000, "shortfall_price": 25_000}
@@ -33,6 +33,11 @@ def hour_of(record=Day(2), table=None, zone=Zone.H, hour=1, thresholds=NONE, pri
 def closing_of(record=Day(2, ZoneDay(24)), table=None, zone=Zone.H, prices=None):
     table = [0] * 256 if table is None else table
     return close_zone(record, table, zone, **(prices or PRICES))
+
+
+def written(hour=1, zone=Zone.H, users=None, **given):
+    """The file of two users, without amounts but for those given."""
+    return write_hour_file(hour, zone, users=users, **amounts(2, **given))
 
 
 def table_with(place, position):
@@ -89,4 +94,21 @@ REFUSED = [
     (15, "read_hour_file", lambda: read_hour_file(HEADER + b"1,h,0,0,0,0,0\r\n")),
     (16, "read_hour_file", lambda: read_hour_file(HEADER + b"1,H,1,0,0,0,0\r\n")),
     (17, "read_hour_file", lambda: read_hour_file(HEADER)),
+    (18, "write_hour_file", lambda: written(users=0)),
+    (18, "write_hour_file", lambda: written(users=3)),
+    (18, "write_hour_file", lambda: written(users=-2)),
+    (18, "write_hour_file", lambda: write_hour_file(1, 0, **amounts(0))),
+    (18, "write_hour_file", lambda: write_hour_file(1, 0, **amounts(129))),
+    (18, "write_hour_file", lambda: written(zone=2)),
+    (18, "write_hour_file", lambda: written(zone=-1, hour=-1)),
+    (18, "write_hour_file", lambda: written(entry=[0])),
+    (18, "write_hour_file", lambda: written(exit=[])),
+    (18, "write_hour_file", lambda: written(title=[0, 0, 0])),
+    (18, "write_hour_file", lambda: written(pooling=[0] * 128)),
+    (19, "write_hour_file", lambda: written(hour=-1)),
+    (19, "write_hour_file", lambda: written(hour=1_000_000_000)),
+    (19, "write_hour_file", lambda: written(entry=[1_000_000_000, 0])),
+    (19, "write_hour_file", lambda: written(exit=[0, -1_000_000_000])),
+    (19, "write_hour_file", lambda: written(title=[-(2**63), 0])),
+    (19, "write_hour_file", lambda: written(pooling=[0, 2**63 - 1])),
 ]

@@ -42,6 +42,12 @@ pub struct File {
     pub lines: i64,
 }
 
+#[repr(C)]
+pub struct Written {
+    pub cause: u64,
+    pub bytes: i64,
+}
+
 extern "C" {
     pub fn gas_day_version() -> u64;
     pub fn gas_day_open(users: i64, table: *mut i64, table_places: usize) -> Opened;
@@ -88,4 +94,19 @@ extern "C" {
         poolings: *mut i64,
         poolings_places: usize,
     ) -> File;
+    pub fn gas_day_write_hour_file(
+        hour: i64,
+        zone: i64,
+        users: i64,
+        entry: *const i64,
+        entry_places: usize,
+        exit: *const i64,
+        exit_places: usize,
+        title: *const i64,
+        title_places: usize,
+        pooling: *const i64,
+        pooling_places: usize,
+        file: *mut u8,
+        file_bytes: usize,
+    ) -> Written;
 }

@@ -51,6 +51,12 @@ pub enum Cause {
     FileOrder = 16,
     /// No line after the header.
     FileEmpty = 17,
+    /// The count is not 1 to 128, the zone not 0 or 1, or a list is not of the count's length.
+    WriteCount = 18,
+    /// The hour or an amount has more than nine digits or the hour is negative.
+    WriteNumber = 19,
+    /// The lent bytes are too few.
+    WriteRoom = 20,
 }
 
 impl Cause {
@@ -73,6 +79,9 @@ impl Cause {
         Cause::FileField,
         Cause::FileOrder,
         Cause::FileEmpty,
+        Cause::WriteCount,
+        Cause::WriteNumber,
+        Cause::WriteRoom,
     ];
 
     /// The cause's number in the requirements.
@@ -114,6 +123,9 @@ impl Cause {
             Cause::FileField => "a field's number or zone letter",
             Cause::FileOrder => "h or z differs from the first line, or g is not the next place below 128",
             Cause::FileEmpty => "no line after the header",
+            Cause::WriteCount => "the count is not 1 to 128, the zone not 0 or 1, or a list is not of the count's length",
+            Cause::WriteNumber => "the hour or an amount has more than nine digits or the hour is negative",
+            Cause::WriteRoom => "the lent bytes are too few",
         }
     }
 }

@@ -1,5 +1,5 @@
-//! The hourly balancing settlement of a gas market, recomputed: opening a Gas Day, default thresholds, settling an hour, closing a zone, and reading an hour's file.
-//! The calls are those of a library that is proved to give exactly the answer that the requirements define, for every input.
+//! The hourly balancing settlement of a gas market, recomputed: opening a Gas Day, default thresholds, settling an hour, closing a zone, and reading and writing an
+//! hour's file. The calls are those of a library that is proved to give exactly the answer that the requirements define, for every input.
 //!
 //! A call may be given anything. It is refused with the first [`Cause`] that applies, and then everything lent is as it was; or it is accepted, and then the answer and
 //! everything lent are what the rules name. No call keeps anything, so calls may run in parallel, each on areas of its own. A call panics only if the library that was
@@ -45,7 +45,8 @@ pub use cause::Cause;
 
 use std::sync::atomic::{AtomicBool, Ordering};
 
-/// The version of the interface that this crate is written for. A library of another version has other structs or other calls, and is not called.
+/// The version of the interface that this crate is written for. A library of another version has other structs or other calls, and is not called. A call that is added
+/// leaves the version as it is; with an older library, which lacks it, this crate is not built.
 pub const VERSION: u64 = 1;
 
 /// The day record of one zone.
@@ -410,4 +411,42 @@ pub fn read_hour_file(file: &[u8], lists: FileLists<'_>) -> Result<HourFile, Cau
     };
     accepted(read.cause)?;
     Ok(HourFile { hour: read.hour, zone: read.zone, lines: read.lines as usize })
+}
+
+/// Writes an hour's file into the first of the lent bytes and answers how many those are; the others are as they were. Every line ends in CR LF. Causes 18 to 20;
+/// [`limits::WRITE_BYTES_MOST`] bytes are enough for every file, and so are exactly as many as the text has.
+///
+/// ```
+/// use gas_day::*;
+/// let amounts = Amounts { entry: &[14_000_000], exit: &[0], title: &[0], pooling: &[-5] };
+/// let mut file = [0; limits::WRITE_BYTES_MOST];
+/// let bytes = write_hour_file(1, 1, 1, amounts, &mut file).unwrap();
+/// assert_eq!(file[..bytes], *b"h,z,g,EEA,XEA,NCTTN,IPT\r\n1,L,0,14000000,0,0,-5\r\n");
+///
+/// assert_eq!(write_hour_file(1, 1, 2, amounts, &mut file), Err(Cause::WriteCount)); // not two users
+/// assert_eq!(write_hour_file(1, 1, 1, amounts, &mut file[..bytes - 1]), Err(Cause::WriteRoom));
+/// ```
+pub fn write_hour_file(hour: i64, zone: i64, users: i64, amounts: Amounts<'_>, file: &mut [u8]) -> Result<usize, Cause> {
+    look_at_version();
+    let Amounts { entry, exit, title, pooling } = amounts;
+    // SAFETY: above.
+    let written = unsafe {
+        boundary::gas_day_write_hour_file(
+            hour,
+            zone,
+            users,
+            entry.as_ptr(),
+            entry.len(),
+            exit.as_ptr(),
+            exit.len(),
+            title.as_ptr(),
+            title.len(),
+            pooling.as_ptr(),
+            pooling.len(),
+            file.as_mut_ptr(),
+            file.len(),
+        )
+    };
+    accepted(written.cause)?;
+    Ok(written.bytes as usize)
 }

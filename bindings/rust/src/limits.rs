@@ -26,3 +26,5 @@ pub const POSITION_MOST: i64 = 100_000_000;
 pub const THRESHOLD_MOST: i64 = 1_000_000_000;
 /// A price: of either sign.
 pub const PRICE_MOST: i64 = 10_000_000;
+/// Lent bytes that are enough for every file: 25, and 61 for each of 128 lines.
+pub const WRITE_BYTES_MOST: usize = 7_833;

@@ -1,6 +1,6 @@
 //! Every cause as its error, and that a refused call leaves everything lent as it was.
 
-use gas_day::limits::{FILE_PLACES, TABLE_PLACES};
+use gas_day::limits::{FILE_PLACES, TABLE_PLACES, WRITE_BYTES_MOST};
 use gas_day::*;
 
 /// Everything that an hour or a closing of two users is given and lent.
@@ -168,15 +168,83 @@ fn reading_is_refused(file: &[u8], lengths: [usize; 4], cause: Cause) {
     assert_eq!(lent, lengths.map(|length| vec![77; length]));
 }
 
+/// Everything that a writing is given and lent.
+#[derive(Clone, PartialEq, Debug)]
+struct Writing {
+    hour: i64,
+    zone: i64,
+    users: i64,
+    amounts: [Vec<i64>; 4],
+    file: Vec<u8>,
+}
+
+/// A file of two users, into bytes that are just enough; it is accepted.
+fn fit_writing() -> Writing {
+    Writing { hour: 7, zone: 1, users: 2, amounts: [vec![1, 5], vec![-2, -6], vec![3, 7], vec![-4, -8]], file: vec![77; 25 + 2 * 17] }
+}
+
+impl Writing {
+    fn write(&mut self) -> Result<usize, Cause> {
+        let [entry, exit, title, pooling] = &self.amounts;
+        write_hour_file(self.hour, self.zone, self.users, Amounts { entry, exit, title, pooling }, &mut self.file)
+    }
+}
+
+/// A cause, and what brings it about in a writing.
+type SpoiltWriting = (Cause, fn(&mut Writing));
+
+const WRITINGS: [SpoiltWriting; 24] = [
+    (Cause::WriteCount, |writing| writing.users = 0),
+    (Cause::WriteCount, |writing| writing.users = -2),
+    (Cause::WriteCount, |writing| (writing.users, writing.amounts) = (129, [(); 4].map(|()| vec![0; 129]))),
+    (Cause::WriteCount, |writing| (writing.users, writing.amounts) = (0, [(); 4].map(|()| Vec::new()))),
+    (Cause::WriteCount, |writing| (writing.users, writing.hour) = (3, -1)),
+    (Cause::WriteCount, |writing| (writing.zone, writing.file) = (2, Vec::new())),
+    (Cause::WriteCount, |writing| writing.zone = -1),
+    (Cause::WriteCount, |writing| writing.amounts[0].push(0)),
+    (Cause::WriteCount, |writing| writing.amounts[0].truncate(1)),
+    (Cause::WriteCount, |writing| writing.amounts[1].push(0)),
+    (Cause::WriteCount, |writing| writing.amounts[1].clear()),
+    (Cause::WriteCount, |writing| writing.amounts[2].push(0)),
+    (Cause::WriteCount, |writing| writing.amounts[2].truncate(1)),
+    (Cause::WriteCount, |writing| writing.amounts[3].push(0)),
+    (Cause::WriteCount, |writing| writing.amounts[3].clear()),
+    (Cause::WriteNumber, |writing| (writing.hour, writing.file) = (-1, Vec::new())),
+    (Cause::WriteNumber, |writing| writing.hour = 1_000_000_000),
+    (Cause::WriteNumber, |writing| writing.hour = i64::MIN),
+    (Cause::WriteNumber, |writing| writing.amounts[0][1] = 1_000_000_000),
+    (Cause::WriteNumber, |writing| writing.amounts[1][0] = -1_000_000_000),
+    (Cause::WriteNumber, |writing| writing.amounts[2][1] = i64::MAX),
+    (Cause::WriteNumber, |writing| writing.amounts[3][0] = i64::MIN),
+    (Cause::WriteRoom, |writing| writing.file.truncate(25 + 2 * 17 - 1)),
+    (Cause::WriteRoom, |writing| writing.file.clear()),
+];
+
+#[test]
+fn of_a_writing() {
+    assert_eq!(fit_writing().write(), Ok(25 + 2 * 17));
+    for (number, (cause, spoil)) in WRITINGS.iter().enumerate() {
+        let mut writing = fit_writing();
+        spoil(&mut writing);
+        let before = writing.clone();
+        assert_eq!(writing.write(), Err(*cause), "way {number}");
+        assert_eq!(writing, before, "way {number}");
+    }
+    let mut longer = fit_writing();
+    (longer.amounts[0][0], longer.file) = (999_999_999, vec![77; WRITE_BYTES_MOST]);
+    assert_eq!(longer.write(), Ok(25 + 2 * 17 + 8));
+    assert_eq!(longer.file[25 + 2 * 17 + 8..], [77; WRITE_BYTES_MOST - 25 - 2 * 17 - 8]);
+}
+
 #[test]
 fn by_number_and_words() {
-    assert_eq!(Cause::ALL.len(), 17);
+    assert_eq!(Cause::ALL.len(), 20);
     for (number, &cause) in (1..).zip(Cause::ALL) {
         assert_eq!((cause.number(), cause as u64), (number, number));
         assert_eq!(Cause::of(number), Some(cause));
         assert_eq!(cause.to_string(), format!("cause {number}: {}", cause.words()));
     }
-    for number in [0, 18, 257, 1 << 32 | 1, u64::MAX] {
+    for number in [0, 21, 257, 1 << 32 | 1, u64::MAX] {
         assert_eq!(Cause::of(number), None);
     }
     let error: Box<dyn std::error::Error> = Cause::Pooling.into();

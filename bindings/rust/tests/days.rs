@@ -1,6 +1,6 @@
 //! Case A and a whole day, worked out by hand from the requirements.
 
-use gas_day::limits::{FILE_PLACES, TABLE_PLACES, ZONE_PLACES};
+use gas_day::limits::{FILE_PLACES, TABLE_PLACES, WRITE_BYTES_MOST, ZONE_PLACES};
 use gas_day::*;
 
 const WIDE: Thresholds = Thresholds { upper: limits::THRESHOLD_MOST, lower: -limits::THRESHOLD_MOST };
@@ -17,10 +17,11 @@ fn read(file: &[u8]) -> (HourFile, [[i64; FILE_PLACES]; 4]) {
     (file, lists)
 }
 
+const CASE_A: &[u8; 112] = b"h,z,g,EEA,XEA,NCTTN,IPT\r\n1,H,0,30000000,-10000000,0,0\r\n1,H,1,15000000,-5000000,0,0\r\n1,H,2,2000000,-5000000,0,0\r\n";
+
 #[test]
 fn case_a_by_its_file() {
-    let (file, [entries, exits, titles, poolings]) =
-        read(b"h,z,g,EEA,XEA,NCTTN,IPT\r\n1,H,0,30000000,-10000000,0,0\r\n1,H,1,15000000,-5000000,0,0\r\n1,H,2,2000000,-5000000,0,0\r\n");
+    let (file, [entries, exits, titles, poolings]) = read(CASE_A);
     assert_eq!(file, HourFile { hour: 1, zone: 0, lines: 3 });
     assert_eq!(entries[..4], [30_000_000, 15_000_000, 2_000_000, 77]);
     assert_eq!(exits[..4], [-10_000_000, -5_000_000, -5_000_000, 77]);
@@ -41,6 +42,28 @@ fn case_a_by_its_file() {
     assert_eq!(table[..3], [16_666_667, 8_333_333, -3_000_000]);
     assert_eq!(table[3..], [0; 253]);
     assert_eq!(day, Day { users: 3, h: ZoneDay { hours: 1, closed: 0 }, l: ZoneDay::default() });
+}
+
+#[test]
+fn case_a_written() {
+    let amounts = Amounts { entry: &[30_000_000, 15_000_000, 2_000_000], exit: &[-10_000_000, -5_000_000, -5_000_000], title: &[0; 3], pooling: &[0; 3] };
+    let mut file = [77; CASE_A.len() + 2];
+    assert_eq!(write_hour_file(1, 0, 3, amounts, &mut file), Ok(CASE_A.len()));
+    assert_eq!((&file[..CASE_A.len()], &file[CASE_A.len()..]), (&CASE_A[..], &[77; 2][..]));
+}
+
+/// 58 bytes a line beside its place, and 274 digits for the 128 places.
+#[test]
+fn the_longest_file_is_read_again() {
+    let lists: [[i64; 128]; 4] = [0, 1, 2, 3].map(|list| std::array::from_fn(|g| 4 * g as i64 + list - 999_999_999));
+    let [entry, exit, title, pooling] = &lists;
+    let mut bytes = [77; WRITE_BYTES_MOST];
+    let written = write_hour_file(999_999_999, 1, 128, Amounts { entry, exit, title, pooling }, &mut bytes).unwrap();
+    assert_eq!(written, 25 + 58 * 128 + 274);
+    assert!(bytes[written..].iter().all(|&byte| byte == 77));
+    let (file, read_again) = read(&bytes[..written]);
+    assert_eq!(file, HourFile { hour: 999_999_999, zone: 1, lines: 128 });
+    assert_eq!(read_again, lists);
 }
 
 const USERS: usize = 67; // so that causers stand in both words of marks

@@ -22,7 +22,7 @@ pub enum FileAnswer {
 }
 
 // The bytes that a file opens with.
-const HEADER: [u8; 25] = *b"h,z,g,EEA,XEA,NCTTN,IPT\r\n";
+pub const HEADER: [u8; 25] = *b"h,z,g,EEA,XEA,NCTTN,IPT\r\n";
 
 // Whether all four lengths are 128.
 fn all_128(a: usize, b: usize, c: usize, d: usize) -> bool

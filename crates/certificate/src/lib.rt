@@ -2,13 +2,16 @@
 // every theorem: where a proof is missing, its function here is not proved.
 //
 // That the calls do what the definitions say is each call's own contract, an equation for the answer and for every lent area, refused or accepted: `open`, `default_thresholds`,
-// `settle_hour` and `close_zone` in the crate `gas_day`, `read_hour_file` in `allocation_file`. A theorem below holds of the calls because it holds of those definitions.
+// `settle_hour` and `close_zone` in the crate `gas_day`, `read_hour_file` in `allocation_file`, `write_hour_file` in `allocation_writer`. A theorem below holds of the calls because it
+// holds of those definitions.
 //
-// Words in quotation marks are the papers': of the demands, or of document 01 where a line says so.
+// Words in quotation marks are the papers': of the demands, or of document 01 or 02 where a line says so.
 ghost use Rattle.largest_remainder.specs.Guarantees.{AddsUp, Accurate, NoMoreThanSize};
 ghost use Rattle.rules.specs.Guarantees.{BeginsAtZero, AcceptedIfFit, Conservation, ClosedIsZero, ClosedIsMarked, Accuracy, OutcomeByThresholds, MarksAreCausers};
 ghost use Rattle.file_guarantees.specs.Guarantees.{ReadIfObeyed, FirstFaultDecides, AcceptedObeys, CauseGiven, SmallNumbers};
 ghost use Rattle.file_guarantees.specs.Examples.{ExamplesComputed, CaseA};
+ghost use Rattle.writer_guarantees.specs.Guarantees.{WrittenIfFit, CauseOfThree, EnoughBytes, RoundTrip, WrittenIsRead, OneText};
+ghost use Rattle.writer_guarantees.specs.Examples.{CaseAWritten, TextsComputed, CausesComputed};
 ghost use Rattle.record_c.specs.Guarantees.{RecordKept};
 ghost use Rattle.flat.specs.Guarantees.{OddMarkRefused};
 ghost use Rattle.text.specs.Examples.{DecimalsShown};
@@ -53,6 +56,38 @@ pub fn a_refused_file_has_a_cause()
 // Document 01: "A number has 1 to 9 digits"; "z is the letter H or L"
 pub fn the_numbers_of_a_line_are_small()
     ensures { λ _. ⌜ SmallNumbers ⌝ }
+{}
+
+// ---- the writer of the hour's file
+
+// Document 02: "Every amount of up to nine digits can be written": a file is written if and only if none of the causes 18 to 20 exists.
+pub fn files_are_written_if_fit()
+    ensures { λ _. ⌜ WrittenIfFit ⌝ }
+{}
+
+// Document 02: "New numbers: 18 .. then 19 .. then 20"
+pub fn a_refused_writing_has_a_cause()
+    ensures { λ _. ⌜ CauseOfThree ⌝ }
+{}
+
+// Document 02: "20 if the lent bytes are too few". So many are never too few: 25, and 61 for each of 128 lines.
+pub fn so_many_bytes_are_enough()
+    ensures { λ _. ⌜ EnoughBytes ⌝ }
+{}
+
+// Document 02: "what is written is read to the same hour, zone and amounts"
+pub fn what_is_written_is_read()
+    ensures { λ _. ⌜ RoundTrip ⌝ }
+{}
+
+// The two calls by their contracts: the first bytes, as many as the writer answers, are read back.
+pub fn a_written_file_is_read_back()
+    ensures { λ _. ⌜ WrittenIsRead ⌝ }
+{}
+
+// And the other way: a file that is read and ends in CR LF is the one that is written of what was read.
+pub fn a_file_that_is_read_has_one_text()
+    ensures { λ _. ⌜ OneText ⌝ }
 {}
 
 // ---- demand 3: every list of hours and closings
@@ -148,6 +183,21 @@ pub fn case_a_is_read()
 // Document 01: "the first that applies is given". Small files of every kind, read or refused as it and its readings in docs/DECISIONS.md say.
 pub fn small_files_are_read_as_decided()
     ensures { λ _. ⌜ ExamplesComputed ⌝ }
+{}
+
+// Document 02: "Write the file of document 01". Of case A's lists it is case A's file;
+pub fn case_a_is_written()
+    ensures { λ _. ⌜ CaseAWritten ⌝ }
+{}
+
+// other small files, to the largest numbers;
+pub fn small_files_are_written()
+    ensures { λ _. ⌜ TextsComputed ⌝ }
+{}
+
+// and contents of every kind, written or refused, each by its first cause.
+pub fn small_contents_are_refused_as_decided()
+    ensures { λ _. ⌜ CausesComputed ⌝ }
 {}
 
 // The program's text: "all plain decimals", up to the ends of 64 bits;

@@ -1,5 +1,5 @@
 -- Why the definitions of the file have the properties of specs/Guarantees.antt; and the examples, computed.
-mod Rows
+pub mod Rows
 mod Obeyed
 mod Faults
 pub mod Guarantees

@@ -3,8 +3,9 @@ use mathlib.Core.Path.{refl}
 use Rattle.allocation_row.specs.Rows.{asRow}
 use Rattle.allocation_file.specs.File.{fileOf}
 use Rattle.rules.specs.Compute.{rules}
-use Rattle.text.specs.Decimals.{digitsIn, digits, decimal}
-use Rattle.report.specs.Text.{lineEnd, heading, field, userLine, refusedLine, lineAt, userLines, hourText}
+use Rattle.text.specs.Bytes.{lineEnd}
+use Rattle.text.specs.Decimals.{digitsIn, digits, decimal, field}
+use Rattle.report.specs.Text.{heading, userLine, refusedLine, lineAt, userLines, hourText}
 use Rattle.hour_text.specs.Opened.{unlessRefused, settled, termsOf, januaryTerms, withDefaults, opened, openedNew}
 use Rattle.firsthour.specs.Printed.{ofFile, printed}
 use Rattle.firsthour.specs.Examples.{ExamplesPrinted}

@@ -15,12 +15,15 @@ use Rattle.rules.specs.declared.ClosingAnswer.the-variants.{Refused as ClosingR
 use Rattle.rules.specs.Days.{newDay}
 use Rattle.allocation_file.specs.declared.FileAnswer.{FileAnswer}
 use Rattle.allocation_file.specs.declared.FileAnswer.the-variants.{Refused as FileRefused, Read}
+use Rattle.allocation_writer.specs.declared.WriteAnswer.{WriteAnswer}
+use Rattle.allocation_writer.specs.declared.WriteAnswer.the-variants.{Refused as WriteRefused, Written}
 use Rattle.record_c.specs.declared.DayC.{DayC}
 use Rattle.flat.specs.declared.OpenC.{OpenC}
 use Rattle.flat.specs.declared.ThresholdsC.{ThresholdsC}
 use Rattle.flat.specs.declared.HourC.{HourC}
 use Rattle.flat.specs.declared.ClosingC.{ClosingC}
 use Rattle.flat.specs.declared.FileC.{FileC}
+use Rattle.flat.specs.declared.WrittenC.{WrittenC}
 use Rattle.record_c.specs.Records.{dayForC}
 
 -- ---- opening: a refusal gives the record of no users
@@ -65,3 +68,9 @@ flatClosing d (Closed r) = record { cause = 0; day = dayForC (r .day); sold = r 
 abbrev pub flatFile : FileAnswer → FileC
 flatFile (FileRefused k) = record { cause = k; hour = pos 0; zone = pos 0; lines = pos 0 }
 flatFile (Read f) = record { cause = 0; hour = f .hour; zone = f .zone; lines = f .lines }
+
+-- ---- the hour's file, written
+
+abbrev pub flatWritten : WriteAnswer → WrittenC
+flatWritten (WriteRefused k) = record { cause = k; bytes = pos 0 }
+flatWritten (Written n) = record { cause = 0; bytes = n }

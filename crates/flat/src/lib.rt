@@ -1,8 +1,9 @@
 // The answers for C: no enum crosses, so each becomes a struct with C's layout that holds its cause, 0 for none, beside its values; what a refusal does not
 // answer is 0.
 ghost use mathlib.Core.Path.{_≡_};
-ghost use Rattle.flat.specs.Flat.{flatOpen, flatThresholds, flatDone, flatHour, flatClosing, flatFile};
+ghost use Rattle.flat.specs.Flat.{flatOpen, flatThresholds, flatDone, flatHour, flatClosing, flatFile, flatWritten};
 use allocation_file::FileAnswer;
+use allocation_writer::WriteAnswer;
 use record_c::DayC;
 use record_c::ZoneDayC;
 use rules::ClosingAnswer;
@@ -194,5 +195,22 @@ pub fn flat_file(answer: FileAnswer) -> FileC
             zone: file.zone,
             lines: file.lines,
         },
+    }
+}
+
+// ---- the hour's file, written
+
+#[repr(C)]
+pub struct WrittenC {
+    pub cause: u64,
+    pub bytes: i64,
+}
+
+pub fn flat_written(answer: WriteAnswer) -> WrittenC
+    ensures { λ r. ⌜ r ≡ flatWritten answer ⌝ }
+{
+    match answer {
+        WriteAnswer::Refused(cause) => WrittenC { cause, bytes: 0 },
+        WriteAnswer::Written(bytes) => WrittenC { cause: 0, bytes },
     }
 }

@@ -7,13 +7,15 @@ use Rattle.rules.specs.Hours.{Hour, Closing}
 use Rattle.rules.specs.Answers.{openAnswer, openTable, hourAnswer, hourTable, hourQuantity, hourMoney, hourScratch}
 use Rattle.rules.specs.Answers.{closingAnswer, closingTable, closingQuantity, closingMoney}
 use Rattle.allocation_file.specs.File.{outcome, answerOf, listOf}
+use Rattle.allocation_writer.specs.Writer.{Content, writeAnswer, writtenFile}
 use Rattle.record_c.specs.declared.DayC.{DayC}
 use Rattle.flat.specs.declared.OpenC.{OpenC}
 use Rattle.flat.specs.declared.HourC.{HourC}
 use Rattle.flat.specs.declared.ClosingC.{ClosingC}
 use Rattle.flat.specs.declared.FileC.{FileC}
+use Rattle.flat.specs.declared.WrittenC.{WrittenC}
 use Rattle.record_c.specs.Records.{dayOf}
-use Rattle.flat.specs.Flat.{flatOpen, flatHour, flatClosing, flatFile}
+use Rattle.flat.specs.Flat.{flatOpen, flatHour, flatClosing, flatFile, flatWritten}
 
 -- the interface's version
 unfoldable pub version : ℕ
@@ -42,3 +44,7 @@ pub record FileForC (s : List ℕ) (a b c d : List ℤ) (r : FileC) (a′ b′ c
   pub exits : b′ ≡ listOf (λ w. w .exit) (outcome s a b c d) b
   pub titles : c′ ≡ listOf (λ w. w .title) (outcome s a b c d) c
   pub poolings : d′ ≡ listOf (λ w. w .pooling) (outcome s a b c d) d
+
+pub record WriteForC (w : Content) (file : List ℕ) (r : WrittenC) (file′ : List ℕ) : Type 0 where
+  pub answer : r ≡ flatWritten (writeAnswer w file)
+  pub bytes : file′ ≡ writtenFile w file

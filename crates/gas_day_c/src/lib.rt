@@ -3,13 +3,15 @@
 ghost use mathlib.Core.Path.{_≡_};
 ghost use Rattle.rules.specs.Hours.{hourGiven, closingGiven};
 ghost use Rattle.rules.specs.Answers.{thresholdsAnswer};
+ghost use Rattle.allocation_writer.specs.Writer.{content};
 ghost use Rattle.flat.specs.Flat.{flatThresholds};
-ghost use Rattle.gas_day_c.specs.Promises.{version, OpenForC, HourForC, ClosingForC, FileForC};
+ghost use Rattle.gas_day_c.specs.Promises.{version, OpenForC, HourForC, ClosingForC, FileForC, WriteForC};
 use flat::ClosingC;
 use flat::FileC;
 use flat::HourC;
 use flat::OpenC;
 use flat::ThresholdsC;
+use flat::WrittenC;
 use record_c::DayC;
 use rules::ClosingTerms;
 use rules::HourTerms;
@@ -117,4 +119,36 @@ pub extern "C" fn gas_day_read_hour_file(
         ⌝ }
 {
     flat::flat_file(allocation_file::read_hour_file(file, entries, exits, titles, poolings))
+}
+
+// ---- the hour's file, written
+
+#[no_mangle]
+pub extern "C" fn gas_day_write_hour_file(
+    hour: i64,
+    zone: i64,
+    users: i64,
+    entry: &[i64],
+    exit: &[i64],
+    title: &[i64],
+    pooling: &[i64],
+    file: &mut [u8],
+) -> WrittenC
+    ensures { λ r. ⌜
+        WriteForC
+        (content hour zone users
+        (now (entry .entry)) (now (exit .entry)) (now (title .entry)) (now (pooling .entry)))
+        (now (file .entry)) r (now (file .exit))
+        ⌝ }
+{
+    flat::flat_written(allocation_writer::write_hour_file(
+        hour,
+        zone,
+        users,
+        entry,
+        exit,
+        title,
+        pooling,
+        file,
+    ))
 }

@@ -1,3 +1,3 @@
 -- What the constructors answer, and the places of a default in its table.
 pub mod Checked
-mod Lookup
+pub mod Lookup

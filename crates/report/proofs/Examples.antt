@@ -1,7 +1,8 @@
 -- The examples, computed by the definitions. Assumes nothing.
 use mathlib.Core.Path.{refl}
-use Rattle.text.specs.Decimals.{digitsIn, digits, decimal}
-use Rattle.report.specs.Text.{lineEnd, heading, field, userLine, refusedLine, lineAt, userLines, hourText}
+use Rattle.text.specs.Bytes.{lineEnd}
+use Rattle.text.specs.Decimals.{digitsIn, digits, decimal, field}
+use Rattle.report.specs.Text.{heading, userLine, refusedLine, lineAt, userLines, hourText}
 use Rattle.report.specs.Examples.{CaseAShown, RefusalShown}
 
 pub case-a-shown : CaseAShown

@@ -1,22 +1,14 @@
 -- The text that the program prints. Assumes nothing.
 use Prim.Native.Nat.{ℕ, zero, suc}
-use mathlib.Core.List.{List, [], _∷_, _++_}
+use mathlib.Core.List.{List, [], _++_}
 use lib.IntN.{ℤ, pos}
 use lib.ListN.{length, getD}
-use Rattle.text.specs.Bytes.{bytes, comma}
-use Rattle.text.specs.Decimals.{decimal}
-
--- "Lines end in CR LF"
-unfoldable pub lineEnd : List ℕ
-lineEnd = bytes "\r\n"
+use Rattle.text.specs.Bytes.{bytes, lineEnd}
+use Rattle.text.specs.Decimals.{decimal, field}
 
 -- the heading line of case A
 unfoldable pub heading : List ℕ
 heading = bytes "g,before,q,money,after\r\n"
-
--- a field with the comma after it
-unfoldable pub field : ℤ → List ℕ
-field x = decimal x ++ (comma ∷ [])
 
 -- "a line of place, position before, quantity, money and position after"
 unfoldable pub userLine : ℤ → ℤ → ℤ → ℤ → ℤ → List ℕ

@@ -2,27 +2,18 @@
 ghost use Prim.Native.Nat.{_+_, _≤_};
 ghost use lib.ListN.{length};
 ghost use Rattle.text.specs.Puts.{Put};
-ghost use Rattle.report.specs.Text.{field, userLine, refusedLine, hourText};
+ghost use Rattle.report.specs.Text.{userLine, refusedLine, hourText};
 ghost use Rattle.report.specs.Room.{HourRoom};
-use text::writing::write_byte;
 use text::writing::write_bytes;
 use text::writing::write_decimal;
 use text::writing::write_digits;
+use text::writing::write_field;
+use text::writing::write_line_end;
 
 // The first line, before the users' lines.
 const HEADING: [u8; 24] = *b"g,before,q,money,after\r\n";
 
 const REFUSED: [u8; 8] = *b"refused,";
-
-const LINE_END: [u8; 2] = *b"\r\n";
-
-fn write_field(out: &mut [u8], at: usize, value: i64) -> usize
-    requires { ⌜ at + 21 ≤ length (now out) ⌝ }
-    ensures { λ r. ⌜ Put (now (out .entry)) at (field value) (now (out .exit)) r × (r ≤ at + 21) ⌝ }
-{
-    let end = write_decimal(out, at, value);
-    write_byte(out, end, b',')
-}
 
 // A user's line: four fields of at most 21 bytes with their commas, a fifth of at most 20, and the line's end.
 pub fn write_user_line(
@@ -44,7 +35,7 @@ pub fn write_user_line(
     let end = write_field(out, end, quantity);
     let end = write_field(out, end, money);
     let end = write_decimal(out, end, after);
-    write_bytes(out, end, &LINE_END)
+    write_line_end(out, end)
 }
 
 // The one line of a refusal.
@@ -54,7 +45,7 @@ pub fn write_refused(out: &mut [u8], number: u64) -> usize
 {
     let end = write_bytes(out, 0, &REFUSED);
     let end = write_digits(out, end, number);
-    write_bytes(out, end, &LINE_END)
+    write_line_end(out, end)
 }
 
 // The whole text of an hour that is settled.

@@ -8,8 +8,7 @@ use lib.IntN.{ℤ}
 use lib.ListN.{length, take, drop, set, length-append, length-drop}
 use lib.Seq.{length-take-le, take-at, drop-append-add, drop-drop, set-split, append-snoc, take-length, paste, paste-zero}
 use mir.Syntax.{w64}
-use mir.Val.{SFits, toZ, ofZ}
-use Rattle.integers.proofs.Machine.{read}
+use mir.Val.{toZ, ofZ}
 use Rattle.text.specs.Puts.{Put}
 
 drop-past : (p d : List ℕ) (n k : ℕ) → length p ≡ n → drop (n + k) (p ++ d) ≡ drop k d
@@ -64,7 +63,41 @@ put-all out at text out′ i h e k = record { ends = rw e; room = h; bytes = k �
 pub put-none : (out : List ℕ) (at : ℕ) → at ≤ length out → Put out at [] out at
 put-none out at h = record { ends = omega arith; room = omega arith; bytes = paste-zero out at [] }
 
--- the text of a number of 64 bits, which a function's proof reads back from its bits, and where it ends at most
-pub put-read : (text : ℤ → List ℕ) {x : ℤ} → SFits w64 x → {out out′ : List ℕ} {at r n : ℕ}
+-- ---- a text that is written part by part
+
+-- parts, one after the other
+abbrev pub together : List (List ℕ) → List ℕ
+together [] = []
+together (a ∷ parts) = a ++ together parts
+
+-- of the text that is to stand in out₀ from at₀ on, these parts are left: there is room for them in out, which the others have changed, and they make it whole
+pub record Writing (out₀ : List ℕ) (at₀ : ℕ) (text out : List ℕ) (at : ℕ) (parts : List (List ℕ)) : Type 0 where
+  pub room : at + length (together parts) ≤ length out
+  pub whole : (out′ : List ℕ) (r : ℕ) → Put out at (together parts) out′ r → Put out₀ at₀ text out′ r
+
+-- all parts are left
+pub writing-starts : {out : List ℕ} {at : ℕ} (text : List ℕ) (parts : List (List ℕ)) → text ≡ together parts → at + length text ≤ length out
+    → Writing out at text out at parts
+writing-starts text parts e h = record { room = rw e at h; whole = λ out′ r p. rw (← e) at p }
+
+module _ {out₀ : List ℕ} {at₀ : ℕ} {text out : List ℕ} {at : ℕ} where
+  -- there is room for the first of them
+  pub part-fits : {a : List ℕ} {parts : List (List ℕ)} → Writing out₀ at₀ text out at (a ∷ parts) → at + length a ≤ length out
+  part-fits {a = a} {parts = parts} w = omega (arith, w .room, length-append a (together parts))
+
+  -- it is written
+  pub part-written : {a : List ℕ} {parts : List (List ℕ)} → Writing out₀ at₀ text out at (a ∷ parts)
+      → {out′ : List ℕ} {r : ℕ} → Put out at a out′ r → Writing out₀ at₀ text out′ r parts
+  part-written {a = a} {parts = parts} w p = record {
+    room = omega (arith, w .room, length-append a (together parts), p .ends, put-length p);
+    whole = λ out″ r″ q. w .whole out″ r″ (put-then p q);
+  }
+
+  -- none is left
+  pub writing-ends : Writing out₀ at₀ text out at [] → Put out₀ at₀ text out at
+  writing-ends w = w .whole out at (put-none out at (omega (arith, w .room)))
+
+-- the text of a number that a function's proof reads back from its bits, and where it ends at most
+pub put-read : (text : ℤ → List ℕ) {x : ℤ} → toZ w64 (ofZ w64 x) ≡ x → {out out′ : List ℕ} {at r n : ℕ}
     → Put out at (text (toZ w64 (ofZ w64 x))) out′ r × (r ≤ n) → Put out at (text x) out′ r × (r ≤ n)
-put-read text f p = rw (read f) at p
+put-read text e p = rw e at p

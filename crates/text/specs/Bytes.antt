@@ -22,6 +22,10 @@ carriageReturn = code "\r"
 abbrev pub lineFeed : ℕ
 lineFeed = code "\n"
 
+-- "Lines end in CR LF"
+unfoldable pub lineEnd : List ℕ
+lineEnd = carriageReturn ∷ lineFeed ∷ []
+
 -- the bytes of numbers
 abbrev pub minusSign : ℕ
 minusSign = code "-"

@@ -4,7 +4,7 @@ use mathlib.Core.Bool.{cond}
 use mathlib.Core.List.{List, [], _∷_, _++_}
 use lib.Dec.{ltb}
 use lib.IntN.{ℤ, pos, negsuc}
-use Rattle.text.specs.Bytes.{digit0, minusSign}
+use Rattle.text.specs.Bytes.{comma, digit0, minusSign}
 
 -- the digits of n without leading zeros, of which there are at most k. (The `let` is computed only where it is used.)
 unfoldable pub digitsIn : ℕ → ℕ → List ℕ
@@ -21,3 +21,7 @@ digits n = digitsIn (suc n) n
 unfoldable pub decimal : ℤ → List ℕ
 decimal (pos n) = digits n
 decimal (negsuc n) = minusSign ∷ digits (suc n)
+
+-- a number with the comma after it
+unfoldable pub field : ℤ → List ℕ
+field x = decimal x ++ (comma ∷ [])

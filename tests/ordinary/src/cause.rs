@@ -37,3 +37,10 @@ pub const FIELD: u64 = 15;
 pub const SEQUENCE: u64 = 16;
 /// No line after the header.
 pub const NO_LINE: u64 = 17;
+/// The count is not 1 to 128, the zone not 0 or 1, or a list is not of the count's
+/// length.
+pub const WRITER_COUNT: u64 = 18;
+/// The hour or an amount has more than nine digits or the hour is negative.
+pub const WRITER_NUMBER: u64 = 19;
+/// The lent bytes are too few.
+pub const WRITER_ROOM: u64 = 20;

@@ -1,8 +1,9 @@
 //! The Gas Day: opening a day, settling an hour, closing a zone, the default
-//! thresholds and the reader of an hour's allocation file.
+//! thresholds, and the reader and the writer of an hour's allocation file.
 //!
 //! An ordinary program, written from the requirements paper ("The Gas Day:
-//! allocations, positions and settlement") and from nothing else.
+//! allocations, positions and settlement"), the writer from its change request, and
+//! from nothing else.
 //!
 //! Every call either is accepted or answers a cause (see [`cause`]). "Checked in
 //! the order of their numbers; the first that applies is given." A refused call
@@ -24,7 +25,9 @@ pub mod random;
 mod reader;
 pub mod spoilt;
 pub mod spoilt_file;
+pub mod spoilt_writing;
 mod thresholds;
+mod writer;
 
 #[cfg(test)]
 mod tests;
@@ -34,3 +37,4 @@ pub use day::{open, Day};
 pub use hour::{settle_hour, Outcome, Side, Terms};
 pub use reader::{read_file, HEADER};
 pub use thresholds::default_thresholds;
+pub use writer::write_file;

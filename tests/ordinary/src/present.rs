@@ -6,6 +6,7 @@
 
 use crate::limits;
 use crate::spoilt::Call;
+use crate::spoilt_writing::Writing;
 
 /// Those of the hour's causes that apply.
 pub fn hour_causes(call: &Call) -> Vec<u64> {
@@ -52,9 +53,28 @@ pub fn closing_causes(call: &Call) -> Vec<u64> {
     numbered(&applies)
 }
 
+/// Those of the writer's causes that apply; the bytes are too few if they are so for the
+/// shortest text that the count, the hour and the amounts that are there allow.
+pub fn writing_causes(writing: &Writing) -> Vec<u64> {
+    let ten_digits = |number: &i64| *number > 999_999_999 || *number < -999_999_999;
+    let lists = &writing.lists;
+    let applies = [
+        !limits::USERS.contains(&writing.users)
+            || !(0..=1).contains(&writing.zone)
+            || lists.iter().any(|list| list.len() as i64 != writing.users),
+        writing.hour < 0 || ten_digits(&writing.hour) || lists.iter().flatten().any(ten_digits),
+        writing.file.len() < writing.bytes_wanted(),
+    ];
+    numbered_from(18, &applies)
+}
+
 /// The causes from 2 on that apply.
 fn numbered(applies: &[bool]) -> Vec<u64> {
-    (2..).zip(applies).filter(|(_, &applies)| applies).map(|(cause, _)| cause).collect()
+    numbered_from(2, applies)
+}
+
+fn numbered_from(first: u64, applies: &[bool]) -> Vec<u64> {
+    (first..).zip(applies).filter(|(_, &applies)| applies).map(|(cause, _)| cause).collect()
 }
 
 fn record(call: &Call) -> bool {

@@ -5,6 +5,7 @@ mod causes;
 mod edges;
 mod made_up;
 mod reader;
+mod writer;
 
 use crate::made_up::Hour;
 use crate::{close_zone, open, settle_hour, Day, Outcome, Side, Terms};

@@ -1,14 +1,19 @@
 -- By the sign: the `-`, then the digits of the size. Assumes nothing.
-use mathlib.Core.Path.{_≡_}
+use mathlib.Core.Path.{_≡_, sym}
+use mathlib.Core.Bool.{true, false}
+use mathlib.Core.List.{[], _∷_, append-nil}
 use Prim.Native.Nat.{_≤_}
 use native.Mathlib.Omega.{arith}
-use lib.IntN.{natAbs}
+use lib.IntN.{pos, natAbs}
 use lib.ListN.{length}
+use lib.Signed.{ltZ}
+use denote.Ref.{now}
 use borrow.Author.Needs.{needs}
 use Rattle.integers.proofs.Machine.{read}
-use Rattle.text.specs.Decimals.{digits}
+use Rattle.text.specs.Bytes.{minusSign}
+use Rattle.text.specs.Decimals.{digits, decimal}
 use Rattle.text.proofs.Decimals.{decimal-negative, decimal-natural, size-length}
-use Rattle.text.proofs.Puts.{put-length, put-then}
+use Rattle.text.proofs.Puts.{Writing, writing-starts, part-fits, part-written, writing-ends}
 use Rattle.text.proofs.writing.write_decimal.Statement.{statement}
 use Rattle.text.proofs.writing.write_decimal.Tie as tie
 
@@ -25,17 +30,31 @@ module _ (m : tie.After-magnitude) where
 
 -- ---- the needs
 
+-- below zero
+module _ (t : tie.Then1) where
+  below : ltZ (start (t .before) .args .value) (pos 0) ≡ true
+  below = rw (read (start (t .before) .fits .value)) at (t .if1 .taken)
+
+  starts : Writing (now (start (t .before) .args .out)) (start (t .before) .args .at) (decimal (start (t .before) .args .value))
+      (now (start (t .before) .args .out)) (start (t .before) .args .at) ((minusSign ∷ []) ∷ digits (t .before .magnitude .result) ∷ [])
+  starts =
+      let e = decimal-negative (start (t .before) .args .value) below in
+      writing-starts _ _ (rw (e, ← size (t .before)) (sym (append-nil _))) (start (t .before) .pre)
+
+-- not below zero
+natural : (e : tie.Else1) → ltZ (start (e .before) .args .value) (pos 0) ≡ false
+natural e = rw (read (start (e .before) .fits .value)) at (e .if1 .left)
+
 magnitude-requires : tie.Need-magnitude-requires
 magnitude-requires c κs = search needs
 
 write-byte-requires : tie.Need-write-byte-requires
-write-byte-requires c κs = search needs
+write-byte-requires c κs = omega (arith, part-fits (starts (c .before)))
 
 write-digits-requires : tie.Need-write-digits-requires
 write-digits-requires c κs =
     let w = c .before .before .before in
-    let p = w .write-byte .ensures in
-    omega (arith, p .ends, put-length p, long (w .before .before .before))
+    part-fits (part-written (starts (w .before .before)) (w .write-byte .ensures))
 
 same-length : tie.Need-same-length
 same-length c = search needs
@@ -48,11 +67,12 @@ returns c =
     let m = t .before in
     let p = w .write-byte .ensures in
     let q = d .write-digits .ensures in
-    let n = rw (read (start m .fits .value)) at (t .if1 .taken) in
-    (rw (decimal-negative (start m .args .value) n, ← size m) (put-then p q), omega (arith, p .ends, q .ends, long m))
+    (writing-ends (part-written (part-written (starts t) p) q), omega (arith, p .ends, q .ends, long m))
 
 write-digits-requires-2 : tie.Need-write-digits-requires-2
-write-digits-requires-2 c κs = omega (arith, long (c .before .before))
+write-digits-requires-2 c κs =
+    let m = c .before .before in
+    rw (decimal-natural (start m .args .value) (natural (c .before)), ← size m) at (start m .pre)
 
 same-length-2 : tie.Need-same-length-2
 same-length-2 c = search needs
@@ -63,8 +83,7 @@ returns-2 c =
     let t = d .before .before in
     let m = t .before in
     let q = d .write-digits2 .ensures in
-    let n = rw (read (start m .fits .value)) at (t .if1 .left) in
-    (rw (decimal-natural (start m .args .value) n, ← size m) q, omega (arith, q .ends, long m))
+    (rw (decimal-natural (start m .args .value) (natural t), ← size m) q, omega (arith, q .ends, long m))
 
 pub write-decimal-spec : {M : Type 1} → statement M
 write-decimal-spec =

@@ -1,0 +1,2 @@
+-- A row's line in parts, and how long they are.
+pub mod Parts

@@ -1,0 +1,1 @@
+// What is proved of every file, and examples: in specs/ and proofs/. No code.
