@@ -26,7 +26,8 @@ extern "C" {
 
 /* ---- the version of this header. A library of another version has other structs or other calls: compare before the first call. A call that is added, with its
  * causes and limits, changes nothing for older programs and leaves the version as it is. A library of this version may be older and lack it: a program that makes the
- * call is then not linked, or is ended by the loader, which names the call. Added so far: gas_day_write_hour_file */
+ * call is then not linked, or is ended by the loader, which names the call. Added so far: gas_day_write_hour_file. An older library of this version also refuses a
+ * file with amounts in MWh, by GAS_DAY_CAUSE_FILE_FIELD */
 
 #define GAS_DAY_VERSION UINT64_C(1)
 
@@ -47,6 +48,7 @@ uint64_t gas_day_version(void);
 #define GAS_DAY_POSITION_MOST INT64_C(100000000)   /* a position, before or after settlement: of either sign */
 #define GAS_DAY_THRESHOLD_MOST INT64_C(1000000000) /* upper: 0 to this; lower: minus this to 0 */
 #define GAS_DAY_PRICE_MOST INT64_C(10000000)       /* of either sign */
+#define GAS_DAY_FILE_MWH_DECIMALS 3                /* of an amount in MWh, in a file that is read: 12.345 means 12345 kWh */
 #define GAS_DAY_WRITE_BYTES_MOST 7833              /* lent bytes that are enough for every file: 25, and 61 for each of 128 lines */
 
 /* ---- causes: the first that applies, in the order of their numbers. The words are the requirements' */
@@ -159,7 +161,8 @@ gas_day_closing gas_day_close_zone(gas_day_day day, int64_t *table, size_t table
                                    size_t quantity_places, int64_t *money, size_t money_places);
 
 /* ---- the hour's file: causes 12 to 17. Fills the first as many places of each list as there are lines, and touches no others. A file may have any size: one with
- * more than 128 lines is refused like any other that breaks a rule */
+ * more than 128 lines is refused like any other that breaks a rule. The lists are in kWh; an amount in the file is in kWh, or in MWh if it has a point: then one to six
+ * digits stand before the point and exactly GAS_DAY_FILE_MWH_DECIMALS after it. A file may have amounts of both kinds */
 
 typedef struct {
     uint64_t cause;
@@ -172,8 +175,8 @@ gas_day_file gas_day_read_hour_file(const uint8_t *file, size_t file_bytes, int6
                                     int64_t *titles, size_t titles_places, int64_t *poolings, size_t poolings_places);
 
 /* ---- the hour's file, written: causes 18 to 20. Every line ends in CR LF, the last one too. Writes the text into the first of the lent bytes, answers how many those
- * are, and touches no others; exactly enough bytes are enough. What is written is read to the same hour, zone and amounts. Ranges are the settlement's affair, not the
- * writer's */
+ * are, and touches no others; exactly enough bytes are enough. Amounts are written in kWh. What is written is read to the same hour, zone and amounts. Ranges are the
+ * settlement's affair, not the writer's */
 
 typedef struct {
     uint64_t cause;

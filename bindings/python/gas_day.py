@@ -88,6 +88,7 @@ __all__ = [
     "POSITION_MOST",
     "THRESHOLD_MOST",
     "PRICE_MOST",
+    "FILE_MWH_DECIMALS",
     "WRITE_BYTES_MOST",
 ]
 
@@ -109,6 +110,7 @@ POOLING_MOST = 100_000_000  # of either sign
 POSITION_MOST = 100_000_000  # before or after settlement, of either sign
 THRESHOLD_MOST = 1_000_000_000  # upper: 0 to this; lower: minus this to 0
 PRICE_MOST = 10_000_000  # of either sign
+FILE_MWH_DECIMALS = 3  # of an amount in MWh, in a file that is read: 12.345 means 12345 kWh
 WRITE_BYTES_MOST = 7_833  # lent bytes that are enough for every file: 25, and 61 for each of 128 lines
 
 # ---- what a caller gives and gets
@@ -568,6 +570,11 @@ def read_hour_file(file: Union[bytes, bytearray, memoryview]) -> HourFile:
 
     >>> read_hour_file(b"h,z,g,EEA,XEA,NCTTN,IPT\\r\\n1,L,0,14000000,0,0,0\\r\\n")
     HourFile(hour=1, zone=<Zone.L: 1>, entry=[14000000], exit=[0], title=[0], pooling=[0])
+
+    The amounts answered are in kWh. An amount of the file that has a point is in MWh, and has three decimals:
+
+    >>> read_hour_file(b"h,z,g,EEA,XEA,NCTTN,IPT\\r\\n1,L,0,14000.000,-0.005,0,12\\r\\n")
+    HourFile(hour=1, zone=<Zone.L: 1>, entry=[14000000], exit=[-5], title=[0], pooling=[12])
     """
     if not isinstance(file, (bytes, bytearray, memoryview)):
         raise TypeError(f"file is to be bytes, not {type(file).__name__}")

@@ -1,5 +1,6 @@
 //! How many calls were made of everything that is to come up, and how many of it there have to be at least.
 
+use crate::both::UNITS;
 use ordinary::made_up::Kind;
 use ordinary::spoilt::{closing_ways, hour_ways, Way};
 use ordinary::spoilt_file;
@@ -71,7 +72,7 @@ impl Counts {
             row("accepted hours by side", LEAST_OF_A_SIDE, ["within", "excess", "shortfall"]),
             row("accepted calls", LEAST_ACCEPTED, ["hours", "closings", "openings", "thresholds", "files", "writings"]),
             row("accepted writings by room", LEAST_ACCEPTED, ROOMS.map(|(name, _)| name)),
-            row("files that were read", LEAST_ACCEPTED, ["and written again"]),
+            row("files that were read and written again", LEAST_ACCEPTED, UNITS),
             row("hours by cause", LEAST_OF_A_CAUSE, 2..=11),
             row("closings by cause", LEAST_OF_A_CAUSE, 2..=8),
             row("openings by cause", LEAST_OF_A_CAUSE, [1, 3]),

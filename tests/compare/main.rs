@@ -15,7 +15,8 @@ fn main() {
         at: String::new(),
         counts: Counts::new(),
     };
-    // some writings first, and most of them last: so a wrong settlement is told as soon as a wrong writer is
+    // some files and writings first, and most of them last: so a wrong settlement is told as soon as a wrong reader or writer is
+    on_purpose::files(&mut run, 16, 20);
     at_random::writings(&mut run, 12, 2_000);
     on_purpose::writings(&mut run, 14, 20);
     for seed in [1, 2, 3] {
@@ -35,7 +36,7 @@ fn main() {
     at_random::writings(&mut run, 13, 20_000);
     on_purpose::writings(&mut run, 15, 400);
 
-    println!("seeds: 1 to 3 days, 4 and 5 odd calls, 6 openings and thresholds, 7 and 8 files, 12 and 13 writings, 9 to 11, 14 and 15 calls spoilt on purpose");
+    println!("seeds: 1 to 3 days, 4 and 5 odd calls, 6 openings and thresholds, 7 and 8 files, 12 and 13 writings, 9 to 11 and 14 to 16 calls spoilt on purpose");
     let short = run.counts.print();
     if short > 0 {
         println!("compared: {} calls, {short} numbers below their least", run.counts.calls);

@@ -367,6 +367,21 @@ static void file_refused(const char *text, size_t places, uint64_t cause) {
 
 #define HEADING "h,z,g,EEA,XEA,NCTTN,IPT\r\n"
 
+/* Amounts in MWh with as many decimals as the header says are read, beside amounts in kWh; with one decimal fewer or more they are not. */
+static void amounts_in_mwh(void) {
+    for (int decimals = GAS_DAY_FILE_MWH_DECIMALS - 1; decimals <= GAS_DAY_FILE_MWH_DECIMALS + 1; decimals++) {
+        char text[80];
+        snprintf(text, sizeof text, HEADING "19,L,0,12.%0*d,-12345,-0.%0*d,6", decimals, 5, decimals, 5);
+        if (decimals != GAS_DAY_FILE_MWH_DECIMALS) {
+            file_refused(text, GAS_DAY_FILE_PLACES, GAS_DAY_CAUSE_FILE_FIELD);
+            continue;
+        }
+        static const int64_t kwh[4] = {12005, -12345, -5, 6};
+        IS(read_file(text, GAS_DAY_FILE_PLACES).cause, GAS_DAY_ACCEPTED);
+        for (int i = 0; i < 4; i++) IS(lists[i][0], kwh[i]);
+    }
+}
+
 static void files(void) {
     gas_day_file file = read_file(HEADING "19,L,0,1,-2,3,-4\r\n19,L,1,5,-6,7,-8\r\n19,L,2,9,-10,11,-12", GAS_DAY_FILE_PLACES);
     IS(file.cause, GAS_DAY_ACCEPTED);
@@ -384,6 +399,7 @@ static void files(void) {
     file_refused(HEADING "19,L,0,1,-2,3,-0", GAS_DAY_FILE_PLACES, GAS_DAY_CAUSE_FILE_FIELD);
     file_refused(HEADING "19,L,1,1,-2,3,-4", GAS_DAY_FILE_PLACES, GAS_DAY_CAUSE_FILE_ORDER);
     file_refused(HEADING, GAS_DAY_FILE_PLACES, GAS_DAY_CAUSE_FILE_EMPTY);
+    amounts_in_mwh();
 }
 
 /* ---- the hour's file, written from the reader's lists */

@@ -10,7 +10,7 @@ from array import array
 
 import gas_day
 from gas_day import Day, GasDay, HourFile, Outcome, Refusal, Side, State, Thresholds, Zone, ZoneDay
-from worked import ENTRY, EXIT, FILE_A, HEADER, PRICES, WIDE, case_a, idle_hour
+from worked import ENTRY, EXIT, FILE_A, FILE_A_IN_MWH, HEADER, PRICES, WIDE, case_a, idle_hour
 
 
 class CaseA(unittest.TestCase):
@@ -37,6 +37,19 @@ class CaseA(unittest.TestCase):
         self.assertEqual(gas_day.read_hour_file(memoryview(FILE_A)), gas_day.read_hour_file(bytearray(FILE_A)))
         day = GasDay(file.users)
         self.check(day, day.settle_file(file, gas_day.default_thresholds(1, file.zone), **PRICES))
+
+    def test_by_its_file_in_mwh(self):
+        file = gas_day.read_hour_file(FILE_A_IN_MWH)
+        self.assertEqual(file, gas_day.read_hour_file(FILE_A))
+        day = GasDay(file.users)
+        self.check(day, day.settle_file(file, gas_day.default_thresholds(1, file.zone), **PRICES))
+
+    def test_by_a_file_of_both_units(self):
+        file = gas_day.read_hour_file(HEADER + b"1,L,0,12.345,-12345,0,0.000\r\n1,L,1,7,-0.005,999999.999,-999999999")
+        self.assertEqual(file, HourFile(1, Zone.L, [12_345, 7], [-12_345, -5], [0, 999_999_999], [0, -999_999_999]))
+        with self.assertRaises(Refusal) as refused:
+            gas_day.read_hour_file(HEADER + b"1,L,0,12.3,0,0,0")
+        self.assertEqual(refused.exception.number, 15)
 
     def test_by_a_file_with_every_amount(self):
         file = gas_day.read_hour_file(HEADER + b"1,L,0,100,-10,5,2\r\n1,L,1,0,0,0,-2")
@@ -96,7 +109,7 @@ class Documentation(unittest.TestCase):
     def test_its_examples(self):
         found = doctest.testmod(gas_day)
         self.assertEqual(found.failed, 0)
-        self.assertGreaterEqual(found.attempted, 14)
+        self.assertGreaterEqual(found.attempted, 15)
 
 
 class WholeDay(unittest.TestCase):

@@ -8,7 +8,7 @@ import unittest
 from pathlib import Path
 
 import gas_day
-from worked import FILE_A, HEADER
+from worked import FILE_A, FILE_A_IN_MWH, HEADER
 
 PRICES = ["--excess-price", "20000", "--shortfall-price", "25000"]
 HEADING = b"g,before,q,money,after\r\n"
@@ -44,6 +44,7 @@ class Shell(unittest.TestCase):
     def test_case_a(self):
         self.settled(self.file("a.csv", FILE_A), "--month", "1", *PRICES, printed=CASE_A)
         self.settled("-", "--month", "1", *PRICES, stdin=FILE_A, printed=CASE_A)
+        self.settled("-", "--month", "1", *PRICES, stdin=FILE_A_IN_MWH, printed=CASE_A)
         self.settled("-", "--upper", "22000000", "--lower", "-22000000", *PRICES, stdin=FILE_A, printed=CASE_A)
         paid = CASE_A.replace(b"66666660000", b"-3333333").replace(b"33333340000", b"-1666667")
         self.settled("-", "--month=1", "--excess-price=-1", "--shortfall-price=0", stdin=FILE_A, printed=paid)

@@ -391,6 +391,20 @@ pub fn close_zone(day: &mut Day, table: &mut [i64], terms: ClosingTerms, outputs
 /// assert_eq!(file, HourFile { hour: 1, zone: 1, lines: 1 });
 /// assert_eq!(entries[..file.lines], [14_000_000]);
 /// ```
+///
+/// The lists are in kWh. An amount of the file that has a point is in MWh, and has [`limits::FILE_MWH_DECIMALS`] decimals; another number of them is cause 15:
+///
+/// ```
+/// use gas_day::*;
+/// let [mut entries, mut exits, mut titles, mut poolings] = [[0; limits::FILE_PLACES]; 4];
+/// let mut read = |line: &str| {
+///     let lists = FileLists { entries: &mut entries, exits: &mut exits, titles: &mut titles, poolings: &mut poolings };
+///     let file = format!("h,z,g,EEA,XEA,NCTTN,IPT\r\n{line}\r\n");
+///     read_hour_file(file.as_bytes(), lists).map(|_| [entries[0], exits[0], titles[0], poolings[0]])
+/// };
+/// assert_eq!(read("1,L,0,14000.000,-0.005,0,12"), Ok([14_000_000, -5, 0, 12]));
+/// assert_eq!(read("1,L,0,14000.00,0,0,0"), Err(Cause::FileField));
+/// ```
 pub fn read_hour_file(file: &[u8], lists: FileLists<'_>) -> Result<HourFile, Cause> {
     look_at_version();
     let FileLists { entries, exits, titles, poolings } = lists;

@@ -45,6 +45,28 @@ fn case_a_by_its_file() {
 }
 
 #[test]
+fn case_a_by_its_file_in_mwh() {
+    let in_mwh = b"h,z,g,EEA,XEA,NCTTN,IPT\r\n1,H,0,30000.000,-10000.000,0.000,0.000\r\n1,H,1,15000.000,-5000.000,0.000,0.000\r\n1,H,2,2000.000,-5000.000,0.000,0.000\r\n";
+    assert_eq!(read(in_mwh), read(CASE_A));
+}
+
+/// As many decimals as the limit says, in the least and the largest amount and beside amounts in kWh; and one fewer and one more.
+#[test]
+fn both_units_in_one_file() {
+    let of = |decimals: usize| {
+        let (ones, nines) = (format!("{:0decimals$}", 1), "9".repeat(decimals));
+        format!("h,z,g,EEA,XEA,NCTTN,IPT\r\n1,L,0,-0.{ones},999999.{nines},12345,-999999.{nines}").into_bytes()
+    };
+    let (file, [entries, exits, titles, poolings]) = read(&of(limits::FILE_MWH_DECIMALS));
+    assert_eq!(file, HourFile { hour: 1, zone: 1, lines: 1 });
+    assert_eq!([entries[0], exits[0], titles[0], poolings[0]], [-1, 999_999_999, 12_345, -999_999_999]);
+    for decimals in [limits::FILE_MWH_DECIMALS - 1, limits::FILE_MWH_DECIMALS + 1] {
+        let [entries, exits, titles, poolings] = &mut [[77; FILE_PLACES]; 4];
+        assert_eq!(read_hour_file(&of(decimals), FileLists { entries, exits, titles, poolings }), Err(Cause::FileField));
+    }
+}
+
+#[test]
 fn case_a_written() {
     let amounts = Amounts { entry: &[30_000_000, 15_000_000, 2_000_000], exit: &[-10_000_000, -5_000_000, -5_000_000], title: &[0; 3], pooling: &[0; 3] };
     let mut file = [77; CASE_A.len() + 2];

@@ -8,7 +8,7 @@
 // Words in quotation marks are the papers': of the demands, or of document 01 or 02 where a line says so.
 ghost use Rattle.largest_remainder.specs.Guarantees.{AddsUp, Accurate, NoMoreThanSize};
 ghost use Rattle.rules.specs.Guarantees.{BeginsAtZero, AcceptedIfFit, Conservation, ClosedIsZero, ClosedIsMarked, Accuracy, OutcomeByThresholds, MarksAreCausers};
-ghost use Rattle.file_guarantees.specs.Guarantees.{ReadIfObeyed, FirstFaultDecides, AcceptedObeys, CauseGiven, SmallNumbers};
+ghost use Rattle.file_guarantees.specs.Guarantees.{ReadIfObeyed, FirstFaultDecides, AcceptedObeys, CauseGiven, SmallNumbers, TwoForms, PointsInAmounts};
 ghost use Rattle.file_guarantees.specs.Examples.{ExamplesComputed, CaseA};
 ghost use Rattle.writer_guarantees.specs.Guarantees.{WrittenIfFit, CauseOfThree, EnoughBytes, RoundTrip, WrittenIsRead, OneText};
 ghost use Rattle.writer_guarantees.specs.Examples.{CaseAWritten, TextsComputed, CausesComputed};
@@ -58,6 +58,17 @@ pub fn the_numbers_of_a_line_are_small()
     ensures { λ _. ⌜ SmallNumbers ⌝ }
 {}
 
+// Document 02: "A field without a point still means kWh. A field with a point has one to six digits before it, written as whole numbers are, with 0 allowed there"; "exactly three decimals, so 12.345
+// means 12,345 kWh"; "the reading rule covers both": a field is read as an amount if and only if it has that amount in one of the two forms.
+pub fn an_amount_has_one_of_two_forms()
+    ensures { λ _. ⌜ TwoForms ⌝ }
+{}
+
+// Document 02: "the last four fields in MWh": no other field of a line that is read has a point.
+pub fn only_amounts_have_points()
+    ensures { λ _. ⌜ PointsInAmounts ⌝ }
+{}
+
 // ---- the writer of the hour's file
 
 // Document 02: "Every amount of up to nine digits can be written": a file is written if and only if none of the causes 18 to 20 exists.
@@ -85,8 +96,8 @@ pub fn a_written_file_is_read_back()
     ensures { λ _. ⌜ WrittenIsRead ⌝ }
 {}
 
-// And the other way: a file that is read and ends in CR LF is the one that is written of what was read.
-pub fn a_file_that_is_read_has_one_text()
+// And the other way: a file without a point that is read and ends in CR LF is the one that is written of what was read.
+pub fn a_file_in_kwh_has_one_text()
     ensures { λ _. ⌜ OneText ⌝ }
 {}
 

@@ -9,10 +9,11 @@ use Rattle.allocation_row.specs.Rows.{rowOf}
 use Rattle.allocation_row.specs.declared.Line.the-variants.{Good}
 use Rattle.allocation_lines.specs.Turns.{File, refused, read}
 use Rattle.allocation_file.specs.File.{linesOf, fileOf, all128, outcome, answerOf}
-use Rattle.file_guarantees.specs.Guarantees.{Obeys, ReadIfObeyed, FirstFaultDecides, Accepted, AcceptedObeys, CauseGiven, SmallNumbers}
+use Rattle.file_guarantees.specs.Guarantees.{Obeys, ReadIfObeyed, FirstFaultDecides, Accepted, AcceptedObeys, CauseGiven, SmallNumbers, TwoForms, PointsInAmounts}
 use Rattle.allocation_file.specs.declared.FileRead.{FileRead}
 use Rattle.allocation_file.specs.declared.FileAnswer.the-variants.{Read}
 use Rattle.file_guarantees.proofs.Rows.{either, nine}
+use Rattle.file_guarantees.proofs.Forms.{means, means-read, no-points}
 use Rattle.file_guarantees.proofs.Obeyed.{IfRead, standing-turned, opened, obeyed, obeys-read}
 use Rattle.file_guarantees.proofs.Faults.{body-fault, IfRefused, file-cause}
 
@@ -61,3 +62,9 @@ cause-given s a b c d n e = rw e at (go (all128 (length a) (length b) (length c)
 -- ---- one line
 pub small-numbers : SmallNumbers
 small-numbers l r e = nine l r (rw e at (either l))
+
+pub two-forms : TwoForms
+two-forms f x = (means f x, means-read)
+
+pub points-in-amounts : PointsInAmounts
+points-in-amounts l r e = no-points l r (rw e at (either l))

@@ -1,18 +1,16 @@
 -- What a line by itself may say: which causes, and how large its numbers are. Assumes nothing.
 use mathlib.Core.Path.{_≡_, refl}
-use mathlib.Core.Bool.{Bool, true, false, cond, _&&_}
+use mathlib.Core.Bool.{Bool, true, false, cond}
 use mathlib.Core.List.{List, [], _∷_}
-use Prim.Native.Nat.{ℕ, zero, suc, _+_, _*_, _-_, _^_, _≤_, _<_}
-use native.Mathlib.Nat.{pow-succ', pow-le-pow-right, add-zero, lt-of-lt-of-le}
-use native.Mathlib.Numerals.{add-one}
+use Prim.Native.Nat.{ℕ, zero, suc, _^_, _≤_, _<_}
 use native.Mathlib.Omega.{arith}
-use lib.Dec.{eqb, leb, lit<}
+use lib.Dec.{eqb, leb}
 use lib.IntN.{ℤ, natAbs}
 use lib.ListN.{length}
-use borrow.Author.Tests.{leb-true}
-use Rattle.integers.proofs.Tests.{and-true}
-use Rattle.text.specs.Bytes.{minusSign, digit0, digit9}
-use Rattle.text.specs.Numbers.{isDigit, digitsFrom, digitsOf, needlessZero, unsignedOf, positive, negative, amountOf}
+use borrow.Author.Tests.{leb-true, eqb-true}
+use Rattle.text.specs.Bytes.{minusSign}
+use Rattle.text.specs.Numbers.{digitsFrom, unsignedOf, hasPoint, beforePoint, afterPoint, wholeOf, decimalsOf, mwhOf, sizeOf, positive, negative, amountOf}
+use Rattle.text.proofs.Numbers.{IfNumber, digits-below, unsigned-below}
 use Rattle.text.specs.declared.number.Unsigned.{Unsigned}
 use Rattle.text.specs.declared.number.Unsigned.the-variants.{Number, NoNumber}
 use Rattle.text.specs.declared.number.Amount.{Amount}
@@ -26,49 +24,42 @@ use Rattle.file_guarantees.specs.Guarantees.{NineDigits}
 
 -- ---- how large a number is
 
--- what holds of a field's number, if it has one
-abbrev IfNumber : (ℕ → Type 0) → Unsigned → Type 0
-IfNumber P (Number n) = P n
-IfNumber P NoNumber = Unit
-
--- of a field's amount
+-- what holds of a field's amount, if it has one
 abbrev IfAmount : (ℤ → Type 0) → Amount → Type 0
 IfAmount P (Kwh n) = P n
 IfAmount P NoAmount = Unit
 
--- n digits are below 10 ^ n
-digits-below : (f : List ℕ) (v i : ℕ) → v < 10 ^ i → IfNumber (λ n. n < 10 ^ (i + length f)) (digitsFrom v f)
-digits-below [] v i h = rw add-zero h
-digits-below (x ∷ xs) v i h = go (isDigit x) refl (digits-below xs (v * 10 + (x - digit0)) (i + 1))
-  where
-    step : isDigit x ≡ true → v * 10 + (x - digit0) < 10 ^ (i + 1)
-    step e =
-        let d = leb-true x digit9 (and-true (leb digit0 x) (leb x digit9) e .1) in
-        rw (add-one, pow-succ' 10 i) (omega arith)
-
-    go : (b : Bool) → isDigit x ≡ b
-        → (v * 10 + (x - digit0) < 10 ^ (i + 1) → IfNumber (λ n. n < 10 ^ (i + 1 + length xs)) (digitsFrom (v * 10 + (x - digit0)) xs))
-        → IfNumber (λ n. n < 10 ^ (i + suc (length xs))) (cond b (digitsFrom (v * 10 + (x - digit0)) xs) NoNumber)
-    go true e on = let q : i + suc (length xs) ≡ i + 1 + length xs = omega arith in rw q (on (step e))
-    go false e on = tt
-
 -- a field's number, whatever the field
-unsigned-below : (f : List ℕ) → IfNumber (λ n. n < 10 ^ 9) (unsignedOf f)
-unsigned-below f = needless (needlessZero f)
+number-below : (f : List ℕ) → IfNumber (λ n. n < 10 ^ 9) (unsignedOf f)
+number-below f = unsigned-below f 9 (λ h. h)
+
+-- a size in MWh: six digits and three
+mwh-below : (u w : Unsigned) → IfNumber (λ m. m < 10 ^ 6) u → IfNumber (λ d. d < 10 ^ 3) w → IfNumber (λ n. n < 10 ^ 9) (mwhOf u w)
+mwh-below NoNumber w p q = tt
+mwh-below (Number m) NoNumber p q = tt
+mwh-below (Number m) (Number d) p q = omega arith
+
+-- a field's size
+size-below : (f : List ℕ) → IfNumber (λ n. n < 10 ^ 9) (sizeOf f)
+size-below f = go (hasPoint f)
   where
-    wider : (u : Unsigned) → length f ≤ 9 → IfNumber (λ n. n < 10 ^ (0 + length f)) u → IfNumber (λ n. n < 10 ^ 9) u
-    wider (Number n) l h = lt-of-lt-of-le h (pow-le-pow-right (lit< tt) {i = 0 + length f} {j = 9} (omega arith))
-    wider NoNumber l h = tt
+    whole : (w : List ℕ) → IfNumber (λ m. m < 10 ^ 6) (wholeOf w)
+    whole w = short (leb (length w) 6) refl
+      where
+        short : (b : Bool) → leb (length w) 6 ≡ b → IfNumber (λ m. m < 10 ^ 6) (cond b (unsignedOf w) NoNumber)
+        short true e = unsigned-below w 6 (λ h. leb-true (length w) 6 e)
+        short false e = tt
 
-    counted : (b : Bool) → (leb 1 (length f) && leb (length f) 9) ≡ b → IfNumber (λ n. n < 10 ^ 9) (cond b (digitsFrom 0 f) NoNumber)
-    counted true e =
-        let few = leb-true (length f) 9 (and-true (leb 1 (length f)) (leb (length f) 9) e .1) in
-        wider (digitsFrom 0 f) few (digits-below f 0 0 (lit< tt))
-    counted false e = tt
+    decimals : (d : List ℕ) → IfNumber (λ n. n < 10 ^ 3) (decimalsOf d)
+    decimals d = three (eqb (length d) 3) refl
+      where
+        three : (b : Bool) → eqb (length d) 3 ≡ b → IfNumber (λ n. n < 10 ^ 3) (cond b (digitsFrom 0 d) NoNumber)
+        three true e = digits-below d 3 (omega (arith, eqb-true (length d) 3 e))
+        three false e = tt
 
-    needless : (b : Bool) → IfNumber (λ n. n < 10 ^ 9) (cond b NoNumber (digitsOf f))
-    needless true = tt
-    needless false = counted (leb 1 (length f) && leb (length f) 9) refl
+    go : (b : Bool) → IfNumber (λ n. n < 10 ^ 9) (cond b (mwhOf (wholeOf (beforePoint f)) (decimalsOf (afterPoint f))) (unsignedOf f))
+    go true = mwh-below (wholeOf (beforePoint f)) (decimalsOf (afterPoint f)) (whole (beforePoint f)) (decimals (afterPoint f))
+    go false = number-below f
 
 -- a field's amount
 amount-below : (f : List ℕ) → IfAmount (λ n. natAbs n < 10 ^ 9) (amountOf f)
@@ -84,9 +75,9 @@ amount-below (x ∷ xs) = signed (eqb x minusSign)
     minus (Number (suc n)) h = h
     minus NoNumber h = tt
 
-    signed : (b : Bool) → IfAmount (λ n. natAbs n < 10 ^ 9) (cond b (negative (unsignedOf xs)) (positive (unsignedOf (x ∷ xs))))
-    signed true = minus (unsignedOf xs) (unsigned-below xs)
-    signed false = plus (unsignedOf (x ∷ xs)) (unsigned-below (x ∷ xs))
+    signed : (b : Bool) → IfAmount (λ n. natAbs n < 10 ^ 9) (cond b (negative (sizeOf xs)) (positive (sizeOf (x ∷ xs))))
+    signed true = minus (sizeOf xs) (size-below xs)
+    signed false = plus (sizeOf (x ∷ xs)) (size-below (x ∷ xs))
 
 -- a zone's number
 zone-below : (f : List ℕ) → IfNumber (λ n. n ≤ 1) (zoneOf f)
@@ -153,9 +144,9 @@ either l = go (isForm l)
 -- and a row's numbers are small
 pub nine : (l : List ℕ) (r : Row) → MadeOf l r → NineDigits r
 nine l r m = record {
-  hour = rw (m .hour) at (unsigned-below (fieldAt 0 l));
+  hour = rw (m .hour) at (number-below (fieldAt 0 l));
   zone = rw (m .zone) at (zone-below (fieldAt 1 l));
-  place = rw (m .place) at (unsigned-below (fieldAt 2 l));
+  place = rw (m .place) at (number-below (fieldAt 2 l));
   entry = rw (m .entry) at (amount-below (fieldAt 3 l));
   exit = rw (m .exit) at (amount-below (fieldAt 4 l));
   title = rw (m .title) at (amount-below (fieldAt 5 l));

@@ -119,12 +119,38 @@ examples =
     ∷ after "1,H,0,+1,0,0,0\r\n" (refused 15)
     ∷ after "-1,H,0,0,0,0,0\r\n" (refused 15)
     ∷ after "1,H,-0,0,0,0,0\r\n" (refused 15)
-    -- 15: a blank, a TAB, a NUL, a byte above 127, a point within a number
+    -- 15: a blank, a TAB, a NUL, a byte above 127
     ∷ after "1,H,0, 1,0,0,0\r\n" (refused 15)
     ∷ after "1,H,0,1\t,0,0,0\r\n" (refused 15)
     ∷ after "1,H,0,1\0,0,0,0\r\n" (refused 15)
     ∷ record { file = header ++ bytes "1,H,0,0,0,0," ++ (200 ∷ []); places = 128; says = refused 15 }
+    -- amounts in MWh: `12.345`, `0.000`, `-0.005` and 1 MWh; the largest and the least; a file that mixes both forms, and a line
+    ∷ after "1,H,0,12.345,0.000,-0.005,1.000\r\n" (read 1 0 (row 1 0 0 (pos 12345) (pos 0) (negsuc 4) (pos 1000) ∷ []))
+    ∷ after "1,H,0,999999.999,-999999.999,0.999,-1.000" (read 1 0 (row 1 0 0 (pos 999999999) (negsuc 999999998) (pos 999) (negsuc 999) ∷ []))
+    ∷ after "2,L,0,12345,-12345,0,0\r\n2,L,1,12.345,-12345,0,0.000\r\n"
+    (read 2 1 (row 2 1 0 (pos 12345) (negsuc 12344) (pos 0) (pos 0) ∷ row 2 1 1 (pos 12345) (negsuc 12344) (pos 0) (pos 0) ∷ []))
+    -- 15: `-0.000`; no digit before the point; none, one, two and four after it
+    ∷ after "1,H,0,-0.000,0,0,0\r\n" (refused 15)
+    ∷ after "1,H,0,.005,0,0,0\r\n" (refused 15)
+    ∷ after "1,H,0,0,-.001,0,0\r\n" (refused 15)
+    ∷ after "1,H,0,1.,0,0,0\r\n" (refused 15)
     ∷ after "1,H,0,1.5,0,0,0\r\n" (refused 15)
+    ∷ after "1,H,0,0,0,1.23,0\r\n" (refused 15)
+    ∷ after "1,H,0,0,0,0,1.2345\r\n" (refused 15)
+    -- 15: a needless zero and seven digits before the point; a sign after it, a `+` and a second `-` before; two points; a point alone
+    ∷ after "1,H,0,01.000,0,0,0\r\n" (refused 15)
+    ∷ after "1,H,0,0,-00.005,0,0\r\n" (refused 15)
+    ∷ after "1,H,0,1000000.000,0,0,0\r\n" (refused 15)
+    ∷ after "1,H,0,1.-23,0,0,0\r\n" (refused 15)
+    ∷ after "1,H,0,+1.000,0,0,0\r\n" (refused 15)
+    ∷ after "1,H,0,--1.000,0,0,0\r\n" (refused 15)
+    ∷ after "1,H,0,1..000,0,0,0\r\n" (refused 15)
+    ∷ after "1,H,0,1.000.000,0,0,0\r\n" (refused 15)
+    ∷ after "1,H,0,.,0,0,0\r\n" (refused 15)
+    -- 15: a point at h and at g; 14: a comma for the point, which makes eight fields
+    ∷ after "1.000,H,0,0,0,0,0\r\n" (refused 15)
+    ∷ after "1,H,0.000,0,0,0,0\r\n" (refused 15)
+    ∷ after "1,H,0,1,234,0,0,0\r\n" (refused 14)
     -- 15: another letter, a small letter, two letters, none, the zone's number
     ∷ after "1,X,0,0,0,0,0\r\n" (refused 15)
     ∷ after "1,h,0,0,0,0,0\r\n" (refused 15)

@@ -1,13 +1,18 @@
 -- What holds of every file, over the definitions of `allocation_file` and of the crates under it. Statements only; the proofs are in
 -- proofs/Guarantees.antt, and the crate `certificate` asks for each. Assumes nothing.
-use Prim.Native.Nat.{ℕ, _^_, _≤_, _<_}
+use Prim.Native.Nat.{ℕ, suc, _+_, _*_, _^_, _≤_, _<_}
 use mathlib.Core.Path.{_≡_}
 use mathlib.Core.Bool.{true, false}
 use mathlib.Core.List.{List, _∷_, _++_, map}
 use mathlib.Core.Logic.{_↔_}
-use lib.IntN.{ℤ, pos, natAbs}
+use lib.IntN.{ℤ, pos, negsuc, natAbs}
 use lib.ListN.{length, take, replicate}
 use Rattle.integers.specs.Lists.{tabulate}
+use Rattle.text.specs.Bytes.{minusSign, point}
+use Rattle.text.specs.Numbers.{digitsFrom, unsignedOf, hasPoint, amountOf}
+use Rattle.text.specs.declared.number.Unsigned.the-variants.{Number}
+use Rattle.text.specs.declared.number.Amount.the-variants.{Kwh}
+use Rattle.csv.specs.Lines.{fieldAt}
 use Rattle.allocation_row.specs.Rows.{rowOf, follows}
 use Rattle.allocation_row.specs.declared.Row.{Row}
 use Rattle.allocation_row.specs.declared.Line.the-variants.{Good, Faulty}
@@ -90,3 +95,35 @@ pub record NineDigits (r : Row) : Type 0 where
 
 abbrev pub SmallNumbers : Type 0
 SmallNumbers = (l : List ℕ) (r : Row) → rowOf l ≡ Good r → NineDigits r
+
+-- ---- the two forms of an amount: document 02, Ask 2
+
+-- the bytes f have the size n, in kWh
+pub data Size : List ℕ → ℕ → Type 0 where
+  -- "A field without a point still means kWh."
+  inKwh : (f : List ℕ) (n : ℕ) → hasPoint f ≡ false → unsignedOf f ≡ Number n → Size f n
+  -- "A field with a point has one to six digits before it, written as whole numbers are, with 0 allowed there", and "exactly three
+  -- decimals": 1,000 times its whole part, and its decimals
+  inMwh : (whole decimals : List ℕ) (m d : ℕ)
+      → length whole ≤ 6 → unsignedOf whole ≡ Number m
+      → length decimals ≡ 3 → digitsFrom 0 decimals ≡ Number d
+      → Size (whole ++ point ∷ decimals) (1000 * m + d)
+
+-- the field f has the amount x: with no sign, or after a `-`, and then it is not 0 ("`-0.000` is turned away by 15, `-0.005` is read as
+-- minus 5")
+pub data Means : List ℕ → ℤ → Type 0 where
+  unsigned : {f : List ℕ} {n : ℕ} → Size f n → Means f (pos n)
+  minus : {f : List ℕ} {n : ℕ} → Size f (suc n) → Means (minusSign ∷ f) (negsuc n)
+
+-- "the reading rule covers both": a field is read as an amount if and only if it has that amount in one of the two forms
+abbrev pub TwoForms : Type 0
+TwoForms = (f : List ℕ) (x : ℤ) → (amountOf f ≡ Kwh x) ↔ Means f x
+
+-- "the last four fields in MWh": no other field of a line that is read has a point
+pub record NoPoints (l : List ℕ) : Type 0 where
+  pub hour : hasPoint (fieldAt 0 l) ≡ false
+  pub zone : hasPoint (fieldAt 1 l) ≡ false
+  pub place : hasPoint (fieldAt 2 l) ≡ false
+
+abbrev pub PointsInAmounts : Type 0
+PointsInAmounts = (l : List ℕ) (r : Row) → rowOf l ≡ Good r → NoPoints l

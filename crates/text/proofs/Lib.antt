@@ -1,5 +1,6 @@
--- Laws of reading a number, of its decimal text, and of text that is written in parts; and the examples, computed.
+-- Laws of reading a number, of a point in it, of its decimal text, and of text that is written in parts; and the examples, computed.
 pub mod Numbers
+pub mod Points
 pub mod Decimals
 pub mod Puts
 pub mod Examples

@@ -30,6 +30,9 @@ lineEnd = carriageReturn ∷ lineFeed ∷ []
 abbrev pub minusSign : ℕ
 minusSign = code "-"
 
+abbrev pub point : ℕ
+point = code "."
+
 abbrev pub digit0 : ℕ
 digit0 = code "0"
 

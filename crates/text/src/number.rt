@@ -1,6 +1,7 @@
 // A field's bytes as a number: what they say is a number, or that they are none.
 ghost use mathlib.Core.Path.{_≡_};
-ghost use Rattle.text.specs.Numbers.{digitsOf, unsignedOf, positive, negative, amountOf};
+ghost use lib.ListN.{length};
+ghost use Rattle.text.specs.Numbers.{digitsOf, unsignedOf, wholeOf, decimalsOf, mwhOf, sizeOf, positive, negative, amountOf};
 
 // An unsigned number.
 pub enum Unsigned {
@@ -52,6 +53,37 @@ pub fn read_unsigned(field: &[u8]) -> Unsigned
     digits(field)
 }
 
+// A size in MWh: at most six digits of whole MWh, and the three digits of their thousandths, which are kWh.
+fn read_mwh(whole: &[u8], decimals: &[u8]) -> Unsigned
+    requires { ⌜ length (now decimals) ≡ 3 ⌝ }
+    ensures { λ r. ⌜ r ≡ mwhOf (wholeOf (now (whole .entry))) (decimalsOf (now (decimals .entry))) ⌝ }
+{
+    if 6 < whole.len() {
+        return Unsigned::NoNumber;
+    }
+    match read_unsigned(whole) {
+        Unsigned::Number(mwh) => match digits(decimals) {
+            Unsigned::Number(kwh) => Unsigned::Number(mwh * 1000 + kwh),
+            Unsigned::NoNumber => Unsigned::NoNumber,
+        },
+        Unsigned::NoNumber => Unsigned::NoNumber,
+    }
+}
+
+// A size in kWh, or in MWh if a point stands before the last three bytes. A point anywhere else is no digit: such a
+// field is no number.
+fn read_size(field: &[u8]) -> Unsigned
+    ensures { λ r. ⌜ r ≡ sizeOf (now (field .entry)) ⌝ }
+{
+    if 3 < field.len() {
+        let point = field.len() - 4;
+        if field[point] == b'.' {
+            return read_mwh(&field[..point], &field[point + 1..]);
+        }
+    }
+    read_unsigned(field)
+}
+
 fn positive_amount(size: Unsigned) -> Amount
     ensures { λ r. ⌜ r ≡ positive size ⌝ }
 {
@@ -61,7 +93,7 @@ fn positive_amount(size: Unsigned) -> Amount
     }
 }
 
-// The amount that stands after a `-`: `-0` is none.
+// The amount that stands after a `-`: `-0` and `-0.000` are none.
 fn negative_amount(size: Unsigned) -> Amount
     ensures { λ r. ⌜ r ≡ negative size ⌝ }
 {
@@ -77,14 +109,14 @@ fn negative_amount(size: Unsigned) -> Amount
     }
 }
 
-// An amount: an unsigned number that may have a `-` before it.
+// An amount: a size that may have a `-` before it.
 pub fn read_amount(field: &[u8]) -> Amount
     ensures { λ r. ⌜ r ≡ amountOf (now (field .entry)) ⌝ }
 {
     if 0 < field.len() {
         if field[0] == b'-' {
-            return negative_amount(read_unsigned(&field[1..]));
+            return negative_amount(read_size(&field[1..]));
         }
     }
-    positive_amount(read_unsigned(field))
+    positive_amount(read_size(field))
 }

@@ -1,4 +1,5 @@
--- A content's text obeys the rules of a file; and of a file that obeys them the rows can be written, and are the file if it ends in CR LF. Assumes nothing.
+-- A content's text obeys the rules of a file; and of a file that obeys them the rows can be written, and are the file if it ends in CR LF and has no
+-- point. Assumes nothing.
 use mathlib.Core.Path.{_≡_, refl, ap, _∙_}
 use mathlib.Core.Bool.{Bool, true, false}
 use mathlib.Core.List.{List, [], _∷_, _++_, map}
@@ -13,15 +14,17 @@ use Rattle.integers.specs.Lists.{AtMost}
 use Rattle.integers.specs.Ranges.{natural}
 use Rattle.integers.proofs.Sums.{at-most-cons}
 use Rattle.text.specs.Bytes.{carriageReturn, lineFeed, lineEnd}
+use Rattle.text.specs.Numbers.{hasPoint}
 use Rattle.csv.specs.Lines.{lines}
 use Rattle.allocation_row.specs.declared.Row.{Row}
 use Rattle.allocation_file.specs.File.{header, linesOf}
-use Rattle.allocation_writer.specs.Writer.{Content, rowsOf, fileText, textOf}
+use Rattle.allocation_writer.specs.Writer.{Content, rowsOf, ended, fileText, textOf}
 use Rattle.allocation_writer.proofs.Tests.{Counted, counted-means, Fitting}
 use Rattle.file_guarantees.specs.Guarantees.{NineDigits, Obeys}
 use Rattle.writer_guarantees.specs.Guarantees.{nineDigitsMost, Fit}
 use Rattle.writer_guarantees.proofs.Lists.{All}
 use Rattle.writer_guarantees.proofs.Fitting.{zone-is, fit-counted}
+use Rattle.writer_guarantees.proofs.Points.{NoPoint, no-point-parts, lines-no-point}
 use Rattle.writer_guarantees.proofs.Lines.{ended-lines}
 use Rattle.writer_guarantees.proofs.Rows.{lines-back, rows-back, rows-text, rows-nine}
 use Rattle.writer_guarantees.proofs.Contents.{rows-short, columns, same-columns, rows-length}
@@ -91,16 +94,19 @@ column f g [] n = record { at = λ i. zero-le }
 column f g (r ∷ rows) n = at-most-cons (omega (arith, g r (n .0))) (column f g rows (n .1))
 
 module _ {s : List ℕ} {h z : ℕ} {rows : List Row} (o : Obeys s h z rows) where
-  -- their text is the file
-  pub file-text : (before : List ℕ) → s ≡ before ++ lineEnd → fileText rows ≡ s
+  -- their text is the file, if it has no point
+  pub file-text : (before : List ℕ) → s ≡ before ++ lineEnd → NoPoint s → fileText rows ≡ s
   unfolding fileText
-  file-text before e =
+  file-text before e h =
       let rest = drop (length header) s in
-      let are = rows-text (linesOf s) rows (o .standing .each) in
       let whole : header ++ rest ≡ s = rw (o .opens) at (take-append-drop (length header) s) in
-      let some : 1 ≤ length (lines rest) = rw (are, length-map) (o .some) in
+      let many : length (lines rest) ≡ length rows = simp length-map at (ap length (o .standing .each)) in
+      let some : 1 ≤ length (lines rest) = omega (arith, o .some) in
       let ends = rest-ends rest before (whole ∙ e) (some-bytes rest some) in
-      rw (← are) (ap (λ l. header ++ l) (rw ends (ended-lines (drop (length header) before))) ∙ whole)
+      let again : ended (lines rest) ≡ rest = rw ends (ended-lines (drop (length header) before)) in
+      let none = no-point-parts header rest (ap hasPoint whole ∙ h) .1 in
+      let are = rows-text (linesOf s) rows (lines-no-point (lines rest) (ap hasPoint again ∙ none)) (o .standing .each) in
+      rw (← are) (ap (λ l. header ++ l) again ∙ whole)
 
   -- their numbers are small
   nine : All NineDigits rows

@@ -112,7 +112,7 @@ written-is-read w file file′ n t a b c d long r a′ b′ c′ d′ h =
     let text : take (natural n) file′ ≡ textOf w = rw (k .1, t .bytes, k .0) (take-append-seam (textOf w) _) in
     round-trip w (tests-fit w (accepted .counts) (accepted .fits)) a b c d long r a′ b′ c′ d′ (subst (λ (s : List ℕ). ReadHour s a b c d r a′ b′ c′ d′) text h)
 
--- ---- what is read has one text
+-- ---- what is read has one text without a point
 
 -- a call that has read was lent lists of 128 places
 right-lists : (b : Bool) (s : List ℕ) (h z : ℕ) (rows : List Row) → cond b (fileOf s) (refused 12) ≡ read h z rows → b ≡ true
@@ -125,7 +125,7 @@ list-taken f h z rows a a′ e = rw e (take-at (map f rows) _ (length rows) (len
 
 pub one-text : OneText
 unfolding natural textOf
-one-text s before e a b c d f a′ b′ c′ d′ t = go (outcome s a b c d) refl (t .answer) (t .entries) (t .exits) (t .titles) (t .poolings)
+one-text s before e p a b c d f a′ b′ c′ d′ t = go (outcome s a b c d) refl (t .answer) (t .entries) (t .exits) (t .titles) (t .poolings)
   where
     go : (w : File) → outcome s a b c d ≡ w → Read f ≡ answerOf w
         → a′ ≡ listOf (λ r. r .entry) w a → b′ ≡ listOf (λ r. r .exit) w b → c′ ≡ listOf (λ r. r .title) w c → d′ ≡ listOf (λ r. r .pooling) w d
@@ -136,4 +136,4 @@ one-text s before e a b c d f a′ b′ c′ d′ t = go (outcome s a b c d) ref
         let o = read-if-obeyed s a b c d long h z rows .0 w in
         let is : f ≡ record { hour = pos h; zone = pos z; lines = pos (length rows) } = cc in
         rw (is, list-taken _ h z rows a a′ i, list-taken _ h z rows b b′ j, list-taken _ h z rows c c′ k, list-taken _ h z rows d d′ l)
-        (record { fit = again-fit o; text = ap fileText (again-rows o) ∙ file-text o before e })
+        (record { fit = again-fit o; text = ap fileText (again-rows o) ∙ file-text o before e p })

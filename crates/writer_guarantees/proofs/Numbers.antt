@@ -1,24 +1,26 @@
 -- Writing a number and reading it are inverse. Assumes nothing.
 use mathlib.Core.Path.{_≡_, refl, sym, ap, _∙_}
-use mathlib.Core.Bool.{Bool, true, false, cond, _&&_}
+use mathlib.Core.Bool.{Bool, true, false, _&&_}
 use mathlib.Core.List.{List, [], _∷_, _++_, append-nil}
 use Prim.Native.Nat.{ℕ, zero, suc, _+_, _*_, _-_, _/_, _%_, _^_, min, _≤_, _<_}
 use native.Mathlib.Nat.{not-suc-le-zero}
 use native.Mathlib.Omega.{arith}
-use lib.Dec.{eqb, leb, ltb}
+use lib.Dec.{leb, ltb}
 use lib.IntN.{ℤ, pos, negsuc, natAbs}
 use lib.ListN.{length, getD, length-append, List·getD-append}
 use lib.Seq.{append-snoc}
-use borrow.Author.Tests.{ltb-true, ltb-false, leb-true, le-leb, eqb-true, eqb-false, ne-eqb}
+use borrow.Author.Tests.{ltb-true, ltb-false, leb-true, le-leb, eqb-false, ne-eqb}
 use Rattle.integers.proofs.Tests.{and-true}
 use Rattle.text.specs.Bytes.{comma, minusSign, digit0, digit9}
 use Rattle.text.specs.Decimals.{digits, decimal}
-use Rattle.text.specs.Numbers.{isDigit, digitsFrom, digitsOf, needlessZero, unsignedOf, positive, negative, amountOf}
-use Rattle.text.specs.declared.number.Unsigned.{Unsigned}
-use Rattle.text.specs.declared.number.Unsigned.the-variants.{Number, NoNumber}
+use Rattle.text.specs.Numbers.{isDigit, digitsFrom, digitsOf, needlessZero, unsignedOf, hasPoint, amountOf}
+use Rattle.text.specs.declared.number.Unsigned.the-variants.{Number}
 use Rattle.text.specs.declared.number.Amount.the-variants.{Kwh}
 use Rattle.text.proofs.Decimals.{digits-one, digits-more, digits-length}
-use Rattle.text.proofs.Numbers.{zero-leads, no-minus}
+use Rattle.text.proofs.Numbers.{number-if, number-unless, zero-leads}
+use Rattle.text.proofs.Points.{number-no-point, point-among}
+use Rattle.file_guarantees.specs.Guarantees.{Size, inKwh, inMwh, Means, unsigned, minus}
+use Rattle.file_guarantees.proofs.Guarantees.{two-forms}
 use Rattle.writer_guarantees.proofs.Lists.{Above, all-append}
 
 -- ---- the digits of a number
@@ -89,16 +91,6 @@ unsigned-back n h =
 
 -- ---- a number, read and written
 
--- what is a number only if a test holds
-number-if : (b : Bool) (u : Unsigned) (n : ℕ) → cond b u NoNumber ≡ Number n → (b ≡ true) × (u ≡ Number n)
-number-if true u n e = (refl, e)
-number-if false u n e = let q : _≡_ {A = ℕ} 0 1 = cc in absurd (omega arith)
-
--- and only if it does not
-number-unless : (b : Bool) (u : Unsigned) (n : ℕ) → cond b NoNumber u ≡ Number n → (b ≡ false) × (u ≡ Number n)
-number-unless true u n e = let q : _≡_ {A = ℕ} 0 1 = cc in absurd (omega arith)
-number-unless false u n e = (refl, e)
-
 -- the first byte of a number is a digit
 record Digit (v x : ℕ) (f : List ℕ) (n : ℕ) : Type 0 where
   pub low : digit0 ≤ x
@@ -146,32 +138,32 @@ unsigned-text f n e =
 
 -- ---- amounts
 
+-- the text of a number has its size: it has no point
+digits-size : (n : ℕ) → n < 10 ^ 9 → Size (digits n) n
+digits-size n h = let e = unsigned-back n h in inKwh (digits n) n (number-no-point (digits n) n e) e
+
 -- written and read: below 10 ^ 9 in size, the amount again
 pub amount-back : (x : ℤ) → natAbs x < 10 ^ 9 → amountOf (decimal x) ≡ Kwh x
 unfolding decimal
-amount-back (pos n) h =
-    let d = digits-are n in
-    no-minus (digits n) (d .some) (λ e. omega (arith, d .first)) ∙ rw (unsigned-back n h)
-amount-back (negsuc n) h = rw (unsigned-back (suc n) h)
+amount-back (pos n) h = two-forms (digits n) (pos n) .1 (unsigned (digits-size n h))
+amount-back (negsuc n) h = two-forms (minusSign ∷ digits (suc n)) (negsuc n) .1 (minus (digits-size (suc n) h))
 
--- read and written: the field again
-pub amount-text : (f : List ℕ) (x : ℤ) → amountOf f ≡ Kwh x → f ≡ decimal x
+-- a size without a point is the text of its number
+size-text : {f : List ℕ} {n : ℕ} → Size f n → hasPoint f ≡ false → f ≡ digits n
+size-text (inKwh f n p e) h = unsigned-text f n e
+size-text (inMwh w d m k short i three j) h =
+    let p : true ≡ false = sym (point-among w d) ∙ h in
+    let q : _≡_ {A = ℕ} 0 1 = cc in
+    absurd (omega arith)
+
+-- read and written: the field again, if it has no point
+pub amount-text : (f : List ℕ) (x : ℤ) → hasPoint f ≡ false → amountOf f ≡ Kwh x → f ≡ decimal x
 unfolding decimal
-amount-text [] x e = let q : _≡_ {A = ℕ} 0 1 = cc in absurd (omega arith)
-amount-text (y ∷ f) x e = signed (eqb y minusSign) refl e
+amount-text f x h e = go (two-forms f x .0 e) h
   where
-    plus : (u : Unsigned) → unsignedOf (y ∷ f) ≡ u → positive u ≡ Kwh x → y ∷ f ≡ decimal x
-    plus NoNumber i e = let q : _≡_ {A = ℕ} 0 1 = cc in absurd (omega arith)
-    plus (Number n) i e = let q : pos n ≡ x = cc in unsigned-text (y ∷ f) n i ∙ ap decimal q
-
-    minus : (u : Unsigned) → unsignedOf f ≡ u → negative u ≡ Kwh x → minusSign ∷ f ≡ decimal x
-    minus NoNumber i e = let q : _≡_ {A = ℕ} 0 1 = cc in absurd (omega arith)
-    minus (Number zero) i e = let q : _≡_ {A = ℕ} 0 1 = cc in absurd (omega arith)
-    minus (Number (suc n)) i e = let q : negsuc n ≡ x = cc in rw (unsigned-text f (suc n) i) (ap decimal q)
-
-    signed : (b : Bool) → eqb y minusSign ≡ b → cond b (negative (unsignedOf f)) (positive (unsignedOf (y ∷ f))) ≡ Kwh x → y ∷ f ≡ decimal x
-    signed true m e = rw (eqb-true y minusSign m) (minus (unsignedOf f) refl e)
-    signed false m e = plus (unsignedOf (y ∷ f)) refl e
+    go : {f : List ℕ} {x : ℤ} → Means f x → hasPoint f ≡ false → f ≡ decimal x
+    go (unsigned s) h = size-text s h
+    go (minus s) h = ap (λ (l : List ℕ). minusSign ∷ l) (size-text s h)
 
 -- every byte of a number's text is above the comma
 pub digits-above : (n : ℕ) → Above comma (digits n)

@@ -10,6 +10,7 @@ use borrow.Author.Tests.{eqb-true, ne-eqb}
 use Rattle.integers.specs.Lists.{every, tabulate}
 use Rattle.integers.proofs.Tests.{and-true}
 use Rattle.text.specs.Bytes.{comma, quoteMark, carriageReturn, lineFeed}
+use Rattle.text.specs.Numbers.{hasPoint}
 use Rattle.text.specs.declared.number.Unsigned.the-variants.{Number, NoNumber}
 use Rattle.csv.specs.Lines.{fields, fieldAt, lines}
 use Rattle.allocation_row.specs.Rows.{isPlain, isForm, letterH, letterL, zoneOf, asRow, rowOf, fieldsOf as rowFields}
@@ -23,6 +24,7 @@ use Rattle.file_guarantees.proofs.Guarantees.{small-numbers}
 use Rattle.writer_guarantees.proofs.Lists.{All, Above, above-less, all-every, tabulate-own}
 use Rattle.writer_guarantees.proofs.Numbers.{unsigned-back, unsigned-text, amount-back, amount-text, digits-above, decimal-above}
 use Rattle.writer_guarantees.proofs.Sizes.{Short}
+use Rattle.writer_guarantees.proofs.Points.{NoPoint, field-no-point}
 use Rattle.writer_guarantees.proofs.Fields.{fields-joined, joined-fields, joined-above}
 use Rattle.writer_guarantees.proofs.Lines.{line-ended}
 
@@ -110,21 +112,22 @@ form l r e = go (isForm l) e
     go true e = refl
     go false e = let q : _≡_ {A = ℕ} 0 1 = cc in absurd (omega arith)
 
--- read and written
-row-text : (l : List ℕ) (r : Row) → rowOf l ≡ Good r → l ≡ lineText r
+-- read and written, if it has no point
+row-text : (l : List ℕ) (r : Row) → hasPoint l ≡ false → rowOf l ≡ Good r → l ≡ lineText r
 unfolding tabulate fieldTexts lineText
-row-text l r e =
+row-text l r h e =
     let m : MadeOf l r = rw e at (either l) in
+    let p = field-no-point l h in
     let seven = eqb-true (length (fields l)) 7 (and-true (every isPlain l) (eqb (length (fields l)) 7) (form l r e) .1) in
     let all = rw seven at (tabulate-own [] (fields l)) in
     let are : fields l ≡ fieldTexts r = sym all ∙ rw (
       unsigned-text (fieldAt 0 l) (r .hour) (m .hour),
       zone-text (fieldAt 1 l) (r .zone) (m .zone),
       unsigned-text (fieldAt 2 l) (r .place) (m .place),
-      amount-text (fieldAt 3 l) (r .entry) (m .entry),
-      amount-text (fieldAt 4 l) (r .exit) (m .exit),
-      amount-text (fieldAt 5 l) (r .title) (m .title),
-      amount-text (fieldAt 6 l) (r .pooling) (m .pooling),
+      amount-text (fieldAt 3 l) (r .entry) (p 3) (m .entry),
+      amount-text (fieldAt 4 l) (r .exit) (p 4) (m .exit),
+      amount-text (fieldAt 5 l) (r .title) (p 5) (m .title),
+      amount-text (fieldAt 6 l) (r .pooling) (p 6) (m .pooling),
     ) in
     sym (joined-fields l) ∙ ap joined are
 
@@ -143,12 +146,12 @@ pub rows-back : (rows : List Row) → All Short rows → map rowOf (map lineText
 rows-back [] n = refl
 rows-back (r ∷ rows) n = rw (row-back r (n .0 .nine), rows-back rows (n .1))
 
--- read and written
-pub rows-text : (ls : List (List ℕ)) (rows : List Row) → map rowOf ls ≡ map Good rows → ls ≡ map lineText rows
-rows-text [] [] e = refl
-rows-text [] (r ∷ rows) e = let q : _≡_ {A = ℕ} 0 1 = cc in absurd (omega arith)
-rows-text (l ∷ ls) [] e = let q : _≡_ {A = ℕ} 0 1 = cc in absurd (omega arith)
-rows-text (l ∷ ls) (r ∷ rows) e = cc (row-text l r (cc), rows-text ls rows (cc))
+-- read and written, if they have no point
+pub rows-text : (ls : List (List ℕ)) (rows : List Row) → All NoPoint ls → map rowOf ls ≡ map Good rows → ls ≡ map lineText rows
+rows-text [] [] h e = refl
+rows-text [] (r ∷ rows) h e = let q : _≡_ {A = ℕ} 0 1 = cc in absurd (omega arith)
+rows-text (l ∷ ls) [] h e = let q : _≡_ {A = ℕ} 0 1 = cc in absurd (omega arith)
+rows-text (l ∷ ls) (r ∷ rows) h e = cc (row-text l r (h .0) (cc), rows-text ls rows (h .1) (cc))
 
 -- rows that are read have small numbers
 pub rows-nine : (ls : List (List ℕ)) (rows : List Row) → map rowOf ls ≡ map Good rows → All NineDigits rows

@@ -2,7 +2,7 @@
 -- proofs/Guarantees.antt, and the crate `certificate` asks for each. Assumes nothing.
 use Prim.Native.Nat.{ℕ, _+_, _*_, _-_, _^_, _≤_}
 use mathlib.Core.Path.{_≡_}
-use mathlib.Core.Bool.{true}
+use mathlib.Core.Bool.{true, false}
 use mathlib.Core.List.{List, _++_}
 use mathlib.Core.Logic.{_⊎_, _↔_}
 use lib.IntN.{ℤ, pos}
@@ -11,6 +11,7 @@ use Rattle.integers.specs.Ranges.{natural}
 use Rattle.integers.specs.Lists.{AtMost}
 use Rattle.rules.specs.Limits.{usersMost}
 use Rattle.text.specs.Bytes.{lineEnd}
+use Rattle.text.specs.Numbers.{hasPoint}
 use Rattle.allocation_file.specs.File.{header, all128, ReadHour}
 use Rattle.allocation_file.specs.declared.FileRead.{FileRead}
 use Rattle.allocation_file.specs.declared.FileAnswer.{FileAnswer}
@@ -91,7 +92,7 @@ WrittenIsRead =
     → (r : FileAnswer) (a′ b′ c′ d′ : List ℤ) → ReadHour (take (natural n) file′) a b c d r a′ b′ c′ d′
     → ReadBack w a b c d r a′ b′ c′ d′
 
--- ---- what is read has one text
+-- ---- what is read has one text without a point
 
 -- what a call read: the hour, the zone and the number of lines that it answered, and the first as many places of each list after it
 abbrev pub contentRead : FileRead → List ℤ → List ℤ → List ℤ → List ℤ → Content
@@ -112,9 +113,10 @@ pub record WrittenAgain (w : Content) (s : List ℕ) : Type 0 where
   pub fit : Fit w
   pub text : textOf w ≡ s
 
--- a file that is read and that ends in CR LF is the text of what was read: so a file and its content determine each other
+-- a file without a point that is read and that ends in CR LF is the text of what was read: so such a file and its content determine each
+-- other. ("The writer, and its agreement with the reader, keep to kWh": a file with a point has amounts in MWh, and is not what is written)
 abbrev pub OneText : Type 0
 OneText =
-    (s before : List ℕ) → s ≡ before ++ lineEnd
+    (s before : List ℕ) → s ≡ before ++ lineEnd → hasPoint s ≡ false
     → (a b c d : List ℤ) (f : FileRead) (a′ b′ c′ d′ : List ℤ) → ReadHour s a b c d (Read f) a′ b′ c′ d′
     → WrittenAgain (contentRead f a′ b′ c′ d′) s

@@ -2,8 +2,8 @@
 //! thresholds, and the reader and the writer of an hour's allocation file.
 //!
 //! An ordinary program, written from the requirements paper ("The Gas Day:
-//! allocations, positions and settlement"), the writer from its change request, and
-//! from nothing else.
+//! allocations, positions and settlement"), the writer and amounts in MWh from its
+//! change requests, and from nothing else.
 //!
 //! Every call either is accepted or answers a cause (see [`cause`]). "Checked in
 //! the order of their numbers; the first that applies is given." A refused call

@@ -2,6 +2,7 @@
 //!
 //! What is made up depends on the generator alone, so that a seed names a run.
 
+use std::fmt::Display;
 use std::ops::RangeInclusive;
 
 use crate::random::Random;
@@ -172,14 +173,46 @@ pub fn file(random: &mut Random, hour: i64, zone: i64, amounts: &Hour) -> Vec<u8
 pub fn any_file(random: &mut Random, lines: usize) -> Vec<u8> {
     let hour = any_number(random).abs();
     let zone = random.between(0, 1);
-    let rows: Vec<[i64; 4]> = (0..lines)
-        .map(|_| std::array::from_fn(|_| any_number(random)))
+    let unit = random.pick(Unit::ALL);
+    let rows: Vec<[String; 4]> = (0..lines)
+        .map(|_| std::array::from_fn(|_| any_amount(random, unit)))
         .collect();
     file_of(hour, zone, &rows, random.one_in(2))
 }
 
+/// The unit of a file's amounts.
+#[derive(Clone, Copy, Debug)]
+pub enum Unit {
+    /// No amount has a point.
+    Kwh,
+    /// Each has one.
+    Mwh,
+    /// Some have one.
+    Mixed,
+}
+
+impl Unit {
+    /// All of them.
+    pub const ALL: [Unit; 3] = [Unit::Kwh, Unit::Mwh, Unit::Mixed];
+}
+
+/// Any amount that has at most nine digits, as a file of this unit has it.
+pub(crate) fn any_amount(random: &mut Random, unit: Unit) -> String {
+    let kwh = any_number(random);
+    let in_mwh = match unit {
+        Unit::Kwh => false,
+        Unit::Mwh => true,
+        Unit::Mixed => random.one_in(2),
+    };
+    if !in_mwh {
+        return kwh.to_string();
+    }
+    let (sign, size) = (if kwh < 0 { "-" } else { "" }, kwh.abs());
+    format!("{sign}{}.{:03}", size / 1000, size % 1000)
+}
+
 /// The file of these rows. The last line ends in CR LF if `ended`.
-pub fn file_of(hour: i64, zone: i64, rows: &[[i64; 4]], ended: bool) -> Vec<u8> {
+pub fn file_of<Amount: Display>(hour: i64, zone: i64, rows: &[[Amount; 4]], ended: bool) -> Vec<u8> {
     let letter = if zone == 0 { 'H' } else { 'L' };
     let lines: Vec<String> = rows
         .iter()

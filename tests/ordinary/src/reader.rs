@@ -115,13 +115,30 @@ fn read_unsigned(field: &[u8]) -> Result<i64, u64> {
     }
 }
 
-/// "the rest may begin with `-`", "and is not `-0`".
+/// "the rest may begin with `-`", "and is not `-0`"; "`-0.000` is turned away by 15,
+/// `-0.005` is read as minus 5."
 fn read_signed(field: &[u8]) -> Result<i64, u64> {
     match field {
-        [b'-', b'0', ..] => Err(cause::FIELD),
-        [b'-', digits @ ..] => read_unsigned(digits).map(|number| -number),
-        _ => read_unsigned(field),
+        b"-0" | b"-0.000" => Err(cause::FIELD),
+        [b'-', size @ ..] => read_size(size).map(|kwh| -kwh),
+        _ => read_size(field),
     }
+}
+
+/// An amount without its minus, in kWh. "A field without a point still means kWh."
+fn read_size(size: &[u8]) -> Result<i64, u64> {
+    match size.iter().position(|&byte| byte == b'.') {
+        Some(point) => read_mwh(&size[..point], &size[point + 1..]),
+        None => read_unsigned(size),
+    }
+}
+
+/// "in MWh with exactly three decimals, so 12.345 means 12,345 kWh." "A field with a
+/// point has one to six digits before it, written as whole numbers are, with 0 allowed
+/// there".
+fn read_mwh(whole: &[u8], decimals: &[u8]) -> Result<i64, u64> {
+    check::require(whole.len() <= 6 && decimals.len() == 3, cause::FIELD)?;
+    Ok(read_unsigned(whole)? * 1_000 + read_digits(decimals)?)
 }
 
 /// The number of at most nine decimal digits.

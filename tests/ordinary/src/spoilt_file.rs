@@ -4,7 +4,7 @@
 //! A way that finds no room in a file (a first line whose h cannot differ from the first
 //! line's, say) leaves it as it was.
 
-use crate::made_up::any_number;
+use crate::made_up::{any_amount, any_number, Unit};
 use crate::random::Random;
 use crate::{limits, HEADER};
 
@@ -36,7 +36,7 @@ const fn way(cause: u64, part: &'static str, spoil: fn(&mut Random, &mut File, u
 }
 
 /// The ways to spoil a file, by cause.
-pub const WAYS: [FileWay; 39] = [
+pub const WAYS: [FileWay; 49] = [
     way(12, "entry list", |r, file, _| file.lengths[0] = r.pick([0, 127, 129, 256])),
     way(12, "exit list", |r, file, _| file.lengths[1] = r.pick([0, 127, 129, 256])),
     way(12, "title list", |r, file, _| file.lengths[2] = r.pick([0, 127, 129, 256])),
@@ -68,6 +68,7 @@ pub const WAYS: [FileWay; 39] = [
             file.lines[at].truncate(comma);
         }
     }),
+    way(14, "a comma for the point", |r, file, at| set_any(r, file, at, &SIGNED, &[b"1,234", b"0,000", b"-12,345"])),
     way(14, "a field too many", |r, file, at| file.lines[at].extend_from_slice(r.pick([&b",0"[..], b",", b",,"]))),
     way(15, "h", |r, file, at| bad_unsigned(r, file, at, 0)),
     way(15, "z", |r, file, at| {
@@ -89,6 +90,15 @@ pub const WAYS: [FileWay; 39] = [
     way(15, "minus in h or g", |r, file, at| set_any(r, file, at, &[0, 2], &[b"-1", b"-5"])),
     way(15, "plus", |r, file, at| set_any(r, file, at, &NUMBERS, &[b"+1", b"+0"])),
     way(15, "another byte in a number", |r, file, at| set_any(r, file, at, &NUMBERS, &[b" 1", b"1 ", b"1.0", b"1/", b"1:", b"a", b"1\0"])),
+    way(15, "a point in h or g", |r, file, at| set_any(r, file, at, &[0, 2], &[b"0.000", b"1.000", b"12.345", b".", b"1."])),
+    way(15, "fewer than three decimals", |r, file, at| set_any(r, file, at, &SIGNED, &[b"1.", b"1.2", b"1.23", b"-1.23", b"0.00", b"999999."])),
+    way(15, "more than three decimals", |r, file, at| set_any(r, file, at, &SIGNED, &[b"1.2345", b"-1.2345", b"0.0000", b"1.0000000"])),
+    way(15, "no digit before the point", |r, file, at| set_any(r, file, at, &SIGNED, &[b".", b".005", b"-.001", b"-.", b".000"])),
+    way(15, "needless zero before the point", |r, file, at| set_any(r, file, at, &SIGNED, &[b"01.000", b"00.000", b"-01.500", b"000012.345"])),
+    way(15, "seven digits before the point", |r, file, at| set_any(r, file, at, &SIGNED, &[b"1000000.000", b"-1234567.890", b"9999999.999"])),
+    way(15, "minus zero in MWh", |r, file, at| set_any(r, file, at, &SIGNED, &[b"-0.000"])),
+    way(15, "two points", |r, file, at| set_any(r, file, at, &SIGNED, &[b"1..000", b"1.000.000", b"1.2.34", b".1.000"])),
+    way(15, "another byte in MWh", |r, file, at| set_any(r, file, at, &SIGNED, &[b"1.-23", b"+1.000", b"--1.000", b"1. 23", b"1 .000", b"1.00x", b"1:000"])),
     way(16, "h differs", |r, file, at| {
         let other = any_number(r).abs().to_string();
         if at > 0 && fields(&file.lines[0])[0] != other.as_bytes() {
@@ -114,7 +124,7 @@ pub const WAYS: [FileWay; 39] = [
     way(16, "line 129", |r, file, _| {
         let first = fields(&file.lines[0]).map(<[u8]>::to_vec);
         let last = file.lines.len();
-        file.lines.extend((last..=limits::PLACES).map(|place| line(r, &first[0], &first[1], place)));
+        file.lines.extend((last..=limits::PLACES).map(|place| line(r, &first[0], &first[1], place, Unit::Mixed)));
     }),
     way(17, "header alone", |_, file, _| file.lines.clear()),
 ];
@@ -127,9 +137,10 @@ const SIGNED: [usize; 4] = [3, 4, 5, 6];
 pub fn fit_file(random: &mut Random, lines: usize) -> File {
     let hour = any_number(random).abs().to_string();
     let zone = random.pick([b"H", b"L"]);
+    let unit = random.pick(Unit::ALL);
     File {
         header: HEADER.to_vec(),
-        lines: (0..lines).map(|place| line(random, hour.as_bytes(), zone, place)).collect(),
+        lines: (0..lines).map(|place| line(random, hour.as_bytes(), zone, place, unit)).collect(),
         ended: random.one_in(2),
         lengths: [limits::PLACES; 4],
     }
@@ -158,9 +169,9 @@ impl File {
     }
 }
 
-fn line(random: &mut Random, hour: &[u8], zone: &[u8], place: usize) -> Vec<u8> {
+fn line(random: &mut Random, hour: &[u8], zone: &[u8], place: usize, unit: Unit) -> Vec<u8> {
     let place = place.to_string();
-    let amounts: [String; 4] = std::array::from_fn(|_| any_number(random).to_string());
+    let amounts: [String; 4] = std::array::from_fn(|_| any_amount(random, unit));
     let [entry, exit, title, pooling] = amounts.each_ref().map(String::as_bytes);
     [hour, zone, place.as_bytes(), entry, exit, title, pooling].join(&b","[..])
 }
@@ -187,12 +198,12 @@ fn set_any(random: &mut Random, file: &mut File, at: usize, among: &[usize], tex
 }
 
 fn bad_unsigned(random: &mut Random, file: &mut File, at: usize, field: usize) {
-    let texts: [&[u8]; 9] = [b"", b"00", b"01", b"-1", b"-0", b"+1", b"1234567890", b"x", b"1 "];
+    let texts: [&[u8]; 10] = [b"", b"00", b"01", b"-1", b"-0", b"+1", b"1234567890", b"x", b"1 ", b"1.000"];
     set_any(random, file, at, &[field], &texts);
 }
 
 fn bad_signed(random: &mut Random, file: &mut File, at: usize, field: usize) {
-    let texts: [&[u8]; 10] = [b"", b"00", b"-", b"-0", b"-01", b"+1", b"1234567890", b"-1234567890", b"1-", b"--2"];
+    let texts: [&[u8]; 13] = [b"", b"00", b"-", b"-0", b"-01", b"+1", b"1234567890", b"-1234567890", b"1-", b"--2", b"1.5", b"-0.000", b".005"];
     set_any(random, file, at, &[field], &texts);
 }
 

@@ -8,10 +8,10 @@ use Rattle.edges_files.proofs.put_lines.Statement.{statement}
 use Rattle.edges_files.proofs.put_lines.Tie as tie
 
 abbrev Inv-loop : tie.InvT-loop
-Inv-loop file₀ from lines row end₀ place₀ file end place = length file ≡ length file₀
+Inv-loop file₀ from lines hour zone amounts end₀ place₀ file end place = length file ≡ length file₀
 
 abbrev μ-loop : tie.MeasureT-loop
-μ-loop file₀ from lines row end₀ place₀ file end place = lines - place
+μ-loop file₀ from lines hour zone amounts end₀ place₀ file end place = lines - place
 
 loop-again : tie.Need-loop-again Inv-loop μ-loop
 loop-again c = c .before .before .put-line .kept .0 ∙ c .before .before .before .before .before .loop .inv

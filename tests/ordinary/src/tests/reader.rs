@@ -186,3 +186,178 @@ fn an_earlier_line_goes_before_a_lower_cause() {
     assert_eq!(read("1,H,0,0,0,0,x\r\n\r\n"), Err(15));
     assert_eq!(read("1,H,0,0,0,0,0\r\n1,H,1,0,0,0,+\r\n\"\r\n"), Err(15));
 }
+
+/// A line that is read, its amounts 7 kWh, but for the text in this field.
+fn line_with(field: usize, text: &str) -> String {
+    let mut fields = ["1", "H", "0", "7", "7", "7", "7"];
+    fields[field] = text;
+    fields.join(",")
+}
+
+/// "12.345 means 12,345 kWh", "`-0.005` is read as minus 5."
+#[test]
+fn amounts_in_mwh_are_read() {
+    for (text, kwh) in [
+        ("12.345", 12_345),
+        ("-12.345", -12_345),
+        ("-0.005", -5),
+        ("0.005", 5),
+        ("0.000", 0),
+        ("0.010", 10),
+        ("-0.100", -100),
+        ("1.000", 1_000),
+        ("-1.000", -1_000),
+        ("10.001", 10_001),
+        ("100000.000", 100_000_000),
+        ("999999.999", 999_999_999),
+        ("-999999.999", -999_999_999),
+        // "A field without a point still means kWh."
+        ("12345", 12_345),
+        ("-5", -5),
+        ("0", 0),
+        ("999999999", 999_999_999),
+        ("-999999999", -999_999_999),
+    ] {
+        for field in 3..7 {
+            let line = line_with(field, text);
+            let (answer, lists) = read_bytes(&[HEADER.as_slice(), line.as_bytes()].concat());
+            assert_eq!(answer, Ok((1, 0, 1)), "{line:?}");
+            let mut expected = OLD;
+            expected.iter_mut().for_each(|list| list[0] = 7);
+            expected[field - 3][0] = kwh;
+            assert_eq!(lists, expected, "{line:?}");
+        }
+    }
+}
+
+#[test]
+fn cause_15_amounts_with_a_point() {
+    for text in [
+        // "`-0.000` is turned away by 15".
+        "-0.000",
+        // "exactly three decimals".
+        "1.",
+        "1.2",
+        "1.23",
+        "1.2345",
+        "0.0000",
+        "-0.0050",
+        // "one to six digits before it".
+        ".",
+        "-.",
+        ".005",
+        "-.005",
+        "1000000.000",
+        "-1234567.890",
+        "99999999999999999999.000",
+        // "written as whole numbers are".
+        "00.005",
+        "-00.005",
+        "01.000",
+        "-01.000",
+        "000012.345",
+        // The minus is first and alone.
+        "--1.000",
+        "1-.000",
+        "1.-00",
+        "-1.-05",
+        "1.00-",
+        // One point, and digits.
+        "1..000",
+        "1.000.",
+        "1.000.000",
+        "1.00.",
+        "1.0.0",
+        "+1.000",
+        "1.+00",
+        " 1.000",
+        "1.000 ",
+        "1. 00",
+        "1.00a",
+        "a.000",
+        "1e1.000",
+        "1.0e2",
+        "1.00\0",
+        "1.00/",
+        "1:.000",
+        "1;000",
+        "1'000",
+        "1.000MWh",
+        "1.\u{661}0",
+        "1\u{b7}000",
+    ] {
+        for field in 3..7 {
+            let line = line_with(field, text);
+            assert_eq!(read(&line), Err(15), "{line:?}");
+        }
+    }
+    // 15 goes before 16 in one line.
+    assert_eq!(read("1,H,7,0,0,0,-0.000"), Err(15));
+    assert_eq!(read("1,H,7,0,0,0,-0.005"), Err(16));
+}
+
+/// "sends the last four fields in MWh", and no others.
+#[test]
+fn cause_15_a_point_in_h_or_g() {
+    for text in [
+        "0.000", "1.000", "0.001", "12.345", "1.", ".", "0.0", "-0.005",
+    ] {
+        for field in [0, 2] {
+            let line = line_with(field, text);
+            assert_eq!(read(&line), Err(15), "{line:?}");
+        }
+    }
+    assert_eq!(read("1,H,0,0,0,0,0\r\n1.000,H,1,0,0,0,0"), Err(15));
+    assert_eq!(read("1,H,0,0,0,0,0\r\n1,H,1.000,0,0,0,0"), Err(15));
+    assert_eq!(read("1,H,0,0,0,0,0\r\n1,H,0.001,0,0,0,0"), Err(15));
+}
+
+/// A comma ends its field, so that the line has eight.
+#[test]
+fn cause_14_a_comma_in_place_of_a_point() {
+    for text in [
+        "12,345",
+        "-12,345",
+        "-0,005",
+        "0,000",
+        "12,345.678",
+        "\"12,345\"",
+    ] {
+        for field in 3..7 {
+            let line = line_with(field, text);
+            assert_eq!(read(&line), Err(14), "{line:?}");
+        }
+    }
+    assert_eq!(read("1,H,0,1,000,-1,000,0,000,0,000"), Err(14));
+    // 14 goes before 15 in one line.
+    assert_eq!(read("1,H,0,12,345,-0.000,0,0"), Err(14));
+    // Where the line lacks a field the comma makes up for it: `005` is no number, and
+    // 12 and 345 are kWh.
+    assert_eq!(read("1,H,0,0,005,0,0"), Err(15));
+    assert_eq!(read("1,H,0,12,345,0,0"), Ok((1, 0, 1)));
+}
+
+/// "A field without a point still means kWh", whatever the fields beside it have.
+#[test]
+fn both_units_in_one_line_and_in_one_file() {
+    let bytes = [
+        HEADER.as_slice(),
+        b"24,L,0,12.345,-12345,0.000,0\r\n",
+        b"24,L,1,12.345,-0.005,999999.999,-1.000\r\n",
+        b"24,L,2,12345,-5,999999999,-1\r\n",
+        b"24,L,3,1,-1.000,-1,1.000",
+    ]
+    .concat();
+    let (answer, lists) = read_bytes(&bytes);
+    assert_eq!(answer, Ok((24, 1, 4)));
+    let read = [
+        [12_345, 12_345, 12_345, 1],
+        [-12_345, -5, -5, -1_000],
+        [0, 999_999_999, 999_999_999, -1],
+        [0, -1_000, -1, 1_000],
+    ];
+    for ((list, old), read) in lists.iter().zip(&OLD).zip(read) {
+        assert_eq!(list[..4], read);
+        assert_eq!(list[4..], old[4..]);
+    }
+}

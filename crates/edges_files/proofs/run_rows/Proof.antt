@@ -2,8 +2,8 @@
 use Prim.Native.Nat.{_-_}
 use native.Mathlib.Omega.{arith}
 use borrow.Author.Needs.{needs}
-use Rattle.edges_files.proofs.main.Statement.{statement}
-use Rattle.edges_files.proofs.main.Tie as tie
+use Rattle.edges_files.proofs.run_rows.Statement.{statement}
+use Rattle.edges_files.proofs.run_rows.Tie as tie
 
 abbrev Inv-loop : tie.InvT-loop
 Inv-loop i₀ i = Unit
@@ -11,8 +11,8 @@ Inv-loop i₀ i = Unit
 abbrev μ-loop : tie.MeasureT-loop
 μ-loop i₀ i = 15 - i
 
-pub main-spec : {M : Type 1} → statement M
-main-spec =
+pub run-rows-spec : {M : Type 1} → statement M
+run-rows-spec =
     tie.close
     (tie.spec
     Inv-loop μ-loop (λ c. search needs) (λ c. search needs) (λ c. search needs) (λ c κs. search needs)
