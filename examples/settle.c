@@ -32,7 +32,7 @@ int main(void) {
     if (file.cause != GAS_DAY_ACCEPTED) {
         return refused(file.cause);
     }
-    gas_day_opened opened = gas_day_open(file.lines, table, GAS_DAY_TABLE_PLACES);
+    gas_day_opened opened = gas_day_open(file.lines, GAS_DAY_LENGTH_USUAL, table, GAS_DAY_TABLE_PLACES);
     if (opened.cause != GAS_DAY_ACCEPTED) {
         return refused(opened.cause);
     }

@@ -6,13 +6,13 @@ Usage: PYTHONPATH=bindings/python python3 examples/settle.py <examples/case_a.cs
 
 import sys
 
-from gas_day import GasDay, Refusal, default_thresholds, read_hour_file
+from gas_day import LENGTH_USUAL, GasDay, Refusal, default_thresholds, read_hour_file
 
 
 def settle(data):
     """The lines of place, position before, quantity, money and position after."""
     file = read_hour_file(data)
-    day = GasDay(file.users)
+    day = GasDay(file.users, LENGTH_USUAL)
     done = day.settle_file(file, default_thresholds(1, file.zone), excess_price=20_000, shortfall_price=25_000)
     for place, after in enumerate(day.positions(file.zone)):
         yield place, done.quantity[place] + after, done.quantity[place], done.money[place], after

@@ -26,10 +26,10 @@ extern "C" {
 
 /* ---- the version of this header. A library of another version has other structs or other calls: compare before the first call. A call that is added, with its
  * causes and limits, changes nothing for older programs and leaves the version as it is. A library of this version may be older and lack it: a program that makes the
- * call is then not linked, or is ended by the loader, which names the call. Added so far: gas_day_write_hour_file. An older library of this version also refuses a
- * file with amounts in MWh, by GAS_DAY_CAUSE_FILE_FIELD */
+ * call is then not linked, or is ended by the loader, which names the call. Added to version 2 so far: none. Since version 2 gas_day_open is told the day's length,
+ * and the record holds it */
 
-#define GAS_DAY_VERSION UINT64_C(1)
+#define GAS_DAY_VERSION UINT64_C(2)
 
 uint64_t gas_day_version(void);
 
@@ -40,7 +40,9 @@ uint64_t gas_day_version(void);
 #define GAS_DAY_FILE_PLACES 128                    /* of each of the reader's four lists */
 #define GAS_DAY_USERS_LEAST 1
 #define GAS_DAY_USERS_MOST 128
-#define GAS_DAY_HOURS 24
+#define GAS_DAY_LENGTH_LEAST 23                    /* hours of a day: on one of the two days of a clock change */
+#define GAS_DAY_LENGTH_USUAL 24                    /* on every day but these two */
+#define GAS_DAY_LENGTH_MOST 25                     /* on the other day of a clock change */
 #define GAS_DAY_ENTRY_MOST INT64_C(50000000)       /* entry (EEA): 0 to this */
 #define GAS_DAY_EXIT_LEAST INT64_C(-50000000)      /* exit (XEA): this to 0 */
 #define GAS_DAY_TITLE_MOST INT64_C(50000000)       /* net title transfer (NCTTN): of either sign */
@@ -51,16 +53,17 @@ uint64_t gas_day_version(void);
 #define GAS_DAY_FILE_MWH_DECIMALS 3                /* of an amount in MWh, in a file that is read: 12.345 means 12345 kWh */
 #define GAS_DAY_WRITE_BYTES_MOST 7833              /* lent bytes that are enough for every file: 25, and 61 for each of 128 lines */
 
-/* ---- causes: the first that applies, in the order of their numbers. The words are the requirements' */
+/* ---- causes: the first that applies, in the order of their numbers, but for 21, which comes after 1 and before 3. The words are the requirements'; those of 2, 6 and 21
+ * are made of them, since the day has a length */
 
 enum {
     GAS_DAY_ACCEPTED = 0,
     GAS_DAY_CAUSE_USERS = 1,         /* opening: user count not 1 to 128 */
-    GAS_DAY_CAUSE_RECORD = 2,        /* record's user count not 1 to 128, hours not 0 to 24, or a zone closed with fewer than 24 */
+    GAS_DAY_CAUSE_RECORD = 2,        /* record's user count not 1 to 128, length not 23, 24 or 25, hours not 0 to the length, or a zone closed with fewer than the length */
     GAS_DAY_CAUSE_LENGTH = 3,        /* table not of 256 places, or a list or the scratch not of exactly the user count */
     GAS_DAY_CAUSE_ZONE = 4,          /* zone not 0 or 1 */
     GAS_DAY_CAUSE_CLOSED = 5,        /* zone closed */
-    GAS_DAY_CAUSE_HOUR = 6,          /* hour is not hours done plus 1, or above 24; at closing, hours done below 24 */
+    GAS_DAY_CAUSE_HOUR = 6,          /* hour is not hours done plus 1, or above the day's length; at closing, hours done below it */
     GAS_DAY_CAUSE_TABLE = 7,         /* table holds a position outside its range, a non-zero place at or beyond the user count in either zone,
                                       * or a non-zero place in a zone that is closed or has no hours done */
     GAS_DAY_CAUSE_TERMS = 8,         /* threshold or price out of range; month not 1 to 12 */
@@ -75,30 +78,32 @@ enum {
     GAS_DAY_CAUSE_FILE_EMPTY = 17,   /* no line after the header */
     GAS_DAY_CAUSE_WRITE_COUNT = 18,  /* the count is not 1 to 128, the zone not 0 or 1, or a list is not of the count's length */
     GAS_DAY_CAUSE_WRITE_NUMBER = 19, /* the hour or an amount has more than nine digits or the hour is negative */
-    GAS_DAY_CAUSE_WRITE_ROOM = 20    /* the lent bytes are too few */
+    GAS_DAY_CAUSE_WRITE_ROOM = 20,   /* the lent bytes are too few */
+    GAS_DAY_CAUSE_DAY_LENGTH = 21    /* opening: length not 23, 24 or 25 */
 };
 
 /* ---- the day record: given by value, answered by value */
 
 typedef struct {
-    int64_t hours;  /* done, 0 to 24 */
+    int64_t hours;  /* done, 0 to the day's length */
     int64_t closed; /* 0 or 1; a record with another number is refused by cause 2 */
 } gas_day_zone_day;
 
 typedef struct {
     int64_t users;
+    int64_t length; /* the hours that the day has: 23, 24 or 25 */
     gas_day_zone_day h;
     gas_day_zone_day l;
 } gas_day_day;
 
-/* ---- opening: causes 1, 3. Sets all 256 places to zero. A refusal answers a record of 0 users */
+/* ---- opening, for so many users and a day of so many hours: causes 1, 21, 3. Sets all 256 places to zero. A refusal answers a record of 0 users and length 0 */
 
 typedef struct {
     uint64_t cause;
     gas_day_day day;
 } gas_day_opened;
 
-gas_day_opened gas_day_open(int64_t users, int64_t *table, size_t table_places);
+gas_day_opened gas_day_open(int64_t users, int64_t length, int64_t *table, size_t table_places);
 
 /* ---- default thresholds by month (1 to 12) and zone: causes 4, 8 */
 
@@ -142,7 +147,7 @@ gas_day_hour gas_day_settle_hour(gas_day_day day, int64_t *table, size_t table_p
                                  size_t pooling_places, int64_t *quantity, size_t quantity_places, int64_t *money, size_t money_places, uint64_t *scratch,
                                  size_t scratch_places);
 
-/* ---- a closing, after 24 hours: causes 2 to 8. Fills quantity and money, sets the zone's places in the table to zero */
+/* ---- a closing, after all hours of the day: causes 2 to 8. Fills quantity and money, sets the zone's places in the table to zero */
 
 typedef struct {
     int64_t zone;

@@ -4,7 +4,7 @@ file.
 The calls are those of a library that is proved to give exactly the answer that the requirements define, for every input. An hour of three users, from a new day:
 
     >>> from gas_day import GasDay, Zone, default_thresholds
-    >>> day = GasDay(users=3)
+    >>> day = GasDay(users=3, length=24)
     >>> amounts = dict(entry=[30_000_000, 15_000_000, 2_000_000], exit=[-10_000_000, -5_000_000, -5_000_000], title=[0, 0, 0], pooling=[0, 0, 0])
     >>> terms = dict(zone=Zone.H, thresholds=default_thresholds(month=1, zone=Zone.H), excess_price=20_000, shortfall_price=25_000)
     >>> done = day.settle_hour(hour=1, **terms, **amounts)
@@ -18,13 +18,13 @@ The calls are those of a library that is proved to give exactly the answer that 
 A `GasDay` carries its record and its table itself, and `day.state` is both, to be stored. The functions `settle_hour` and `close_zone` are given record and table and
 answer new ones.
 
-A call that is turned away raises `Refusal`, with the first cause that applies: its number, the requirements' words and the call's name. Then nothing has changed.
+A call that is turned away raises `Refusal`, with the first cause that applies: its number, its words and the call's name. Then nothing has changed.
 
     >>> day.settle_hour(hour=3, **terms, **amounts)
     Traceback (most recent call last):
-    gas_day.Refusal: settle_hour refused by cause 6: hour is not hours done plus 1, or above 24; at closing, hours done below 24
+    gas_day.Refusal: settle_hour refused by cause 6: hour is not hours done plus 1, or above the day's length; at closing, hours done below it
     >>> day.record
-    Day(users=3, h=ZoneDay(hours=1, closed=False), l=ZoneDay(hours=0, closed=False))
+    Day(users=3, length=24, h=ZoneDay(hours=1, closed=False), l=ZoneDay(hours=0, closed=False))
 
 What is not a whole number is a TypeError, and a number beyond 64 bits an OverflowError, before the library is called.
 
@@ -32,7 +32,7 @@ Energy is in kWh, a price in millionths of a euro per kWh, money in millionths o
 amounts of every user: its entry (EEA, 0 or more), its exit (XEA, 0 or less: an exit is negative), its net title transfer (NCTTN) and its pooling transfer (IPT), both of
 either sign; the pooling transfers of all users add to zero.
 
-From a shell, `python3 -m gas_day settle FILE --month 1 --excess-price 20000 --shortfall-price 25000` settles an hour's file; --help says more.
+From a shell, `python3 -m gas_day settle FILE --length 24 --month 1 --excess-price 20000 --shortfall-price 25000` settles an hour's file; --help says more.
 
 The shared object is the one that GAS_DAY_LIBRARY names in the environment; else that of the repository or of the prefix that this module stands in; else the one that the
 system finds.
@@ -80,7 +80,9 @@ __all__ = [
     "FILE_PLACES",
     "USERS_LEAST",
     "USERS_MOST",
-    "HOURS",
+    "LENGTH_LEAST",
+    "LENGTH_USUAL",
+    "LENGTH_MOST",
     "ENTRY_MOST",
     "EXIT_LEAST",
     "TITLE_MOST",
@@ -92,7 +94,7 @@ __all__ = [
     "WRITE_BYTES_MOST",
 ]
 
-VERSION = 1
+VERSION = 2
 """The version of the interface that this module is written for. A call that is added leaves it as it is."""
 
 # ---- limits, by the header's names. Every call checks them itself; they are here for who prepares its inputs
@@ -102,7 +104,9 @@ ZONE_PLACES = 128
 FILE_PLACES = 128  # of each of the reader's four lists
 USERS_LEAST = 1
 USERS_MOST = 128
-HOURS = 24
+LENGTH_LEAST = 23  # hours of a day: on one of the two days of a clock change
+LENGTH_USUAL = 24  # on every day but these two
+LENGTH_MOST = 25  # on the other day of a clock change
 ENTRY_MOST = 50_000_000  # 0 to this
 EXIT_LEAST = -50_000_000  # this to 0
 TITLE_MOST = 50_000_000  # of either sign
@@ -135,7 +139,7 @@ class Side(IntEnum):
 
 
 class Cause(IntEnum):
-    """Why a call was turned away: the first cause that applies, in the order of their numbers."""
+    """Why a call was turned away: the first cause that applies, in the order of their numbers, but for 21, which comes after 1 and before 3."""
 
     USERS = 1
     RECORD = 2
@@ -157,20 +161,21 @@ class Cause(IntEnum):
     WRITE_COUNT = 18
     WRITE_NUMBER = 19
     WRITE_ROOM = 20
+    DAY_LENGTH = 21
 
     @property
     def words(self) -> str:
-        """The cause in the words of the requirements."""
+        """The cause in the words of the requirements; those of 2, 6 and 21 are made of them, since the day has a length."""
         return _WORDS[self]
 
 
 _WORDS = {
     Cause.USERS: "opening: user count not 1 to 128",
-    Cause.RECORD: "record's user count not 1 to 128, hours not 0 to 24, or a zone closed with fewer than 24",
+    Cause.RECORD: "record's user count not 1 to 128, length not 23, 24 or 25, hours not 0 to the length, or a zone closed with fewer than the length",
     Cause.LENGTH: "table not of 256 places, or a list or the scratch not of exactly the user count",
     Cause.ZONE: "zone not 0 or 1",
     Cause.CLOSED: "zone closed",
-    Cause.HOUR: "hour is not hours done plus 1, or above 24; at closing, hours done below 24",
+    Cause.HOUR: "hour is not hours done plus 1, or above the day's length; at closing, hours done below it",
     Cause.TABLE: "table holds a position outside its range, a non-zero place at or beyond the user count in either zone, "
     "or a non-zero place in a zone that is closed or has no hours done",
     Cause.TERMS: "threshold or price out of range; month not 1 to 12",
@@ -186,6 +191,7 @@ _WORDS = {
     Cause.WRITE_COUNT: "the count is not 1 to 128, the zone not 0 or 1, or a list is not of the count's length",
     Cause.WRITE_NUMBER: "the hour or an amount has more than nine digits or the hour is negative",
     Cause.WRITE_ROOM: "the lent bytes are too few",
+    Cause.DAY_LENGTH: "opening: length not 23, 24 or 25",
 }
 
 
@@ -205,7 +211,7 @@ class Refusal(Exception):
 
     @property
     def words(self) -> str:
-        """The cause in the words of the requirements."""
+        """The cause's words."""
         return self.cause.words
 
     def __str__(self) -> str:
@@ -214,7 +220,7 @@ class Refusal(Exception):
 
 @dataclass(frozen=True)
 class ZoneDay:
-    """The day record of one zone: the hours done, 0 to 24, and whether it is closed."""
+    """The day record of one zone: the hours done, 0 to the day's length, and whether it is closed."""
 
     hours: int = 0
     closed: bool = False
@@ -222,9 +228,10 @@ class ZoneDay:
 
 @dataclass(frozen=True)
 class Day:
-    """The day record: the users, 1 to 128, and each zone. It and the table that was answered with it belong together."""
+    """The day record: the users, 1 to 128, the day's length, 23, 24 or 25 hours, and each zone. It and the table that was answered with it belong together."""
 
     users: int
+    length: int
     h: ZoneDay = ZoneDay()
     l: ZoneDay = ZoneDay()
 
@@ -302,7 +309,7 @@ class _ZoneDay(Structure):
 
 
 class _Day(Structure):
-    _fields_ = [("users", c_int64), ("h", _ZoneDay), ("l", _ZoneDay)]
+    _fields_ = [("users", c_int64), ("length", c_int64), ("h", _ZoneDay), ("l", _ZoneDay)]
 
 
 class _Opened(Structure):
@@ -357,7 +364,7 @@ _SCRATCH = [POINTER(c_uint64), c_size_t]
 _BYTES = [POINTER(c_uint8), c_size_t]
 
 _CALLS = {
-    "gas_day_open": ([c_int64, *_NUMBERS], _Opened),
+    "gas_day_open": ([c_int64, c_int64, *_NUMBERS], _Opened),
     "gas_day_default_thresholds": ([c_int64, c_int64], _Thresholds),
     "gas_day_settle_hour": ([_Day, *_NUMBERS, _HourTerms, *(6 * _NUMBERS), *_SCRATCH], _Hour),
     "gas_day_close_zone": ([_Day, *_NUMBERS, _ClosingTerms, *(2 * _NUMBERS)], _Closing),
@@ -459,7 +466,7 @@ def _zone_record(zone: ZoneDay, what: str) -> _ZoneDay:
 
 def _record(day: Day) -> _Day:
     _expect(Day, day, "day")
-    return _Day(_whole(day.users, "day.users"), _zone_record(day.h, "day.h"), _zone_record(day.l, "day.l"))
+    return _Day(_whole(day.users, "day.users"), _whole(day.length, "day.length"), _zone_record(day.h, "day.h"), _zone_record(day.l, "day.l"))
 
 
 def _zone_day(zone: _ZoneDay) -> ZoneDay:
@@ -467,7 +474,7 @@ def _zone_day(zone: _ZoneDay) -> ZoneDay:
 
 
 def _day(record: _Day) -> Day:
-    return Day(record.users, _zone_day(record.h), _zone_day(record.l))
+    return Day(record.users, record.length, _zone_day(record.h), _zone_day(record.l))
 
 
 def _accepted(call: str, answer: Any) -> Any:
@@ -479,10 +486,15 @@ def _accepted(call: str, answer: Any) -> Any:
 # ---- the calls
 
 
-def open_day(users: int) -> State:
-    """Opens a Gas Day: the record, and the table of 256 places, all zero. Cause 1; the table is this function's own, so 3 does not come up."""
+def open_day(users: int, length: int) -> State:
+    """Opens a Gas Day of 23, 24 or 25 hours: the record, which keeps the length, and the table of 256 places, all zero. Causes 1 and 21; the table is this function's own,
+    so 3 does not come up.
+
+    >>> open_day(users=3, length=25).day
+    Day(users=3, length=25, h=ZoneDay(hours=0, closed=False), l=ZoneDay(hours=0, closed=False))
+    """
     table = _zeros(TABLE_PLACES)
-    opened = _accepted("open_day", _library.gas_day_open(_whole(users, "users"), *_lent(table)))
+    opened = _accepted("open_day", _library.gas_day_open(_whole(users, "users"), _whole(length, "length"), *_lent(table)))
     return State(_day(opened.day), list(table))
 
 
@@ -545,9 +557,9 @@ def _outcome(hour: _Hour) -> Outcome:
 
 
 def close_zone(day: Day, table: Numbers, zone: int, *, excess_price: int, shortfall_price: int) -> ClosingDone:
-    """Closes a zone after its 24 hours: each user's quantity is its whole position. Causes 2 to 8. Nothing given is changed.
+    """Closes a zone after all hours of its day: each user's quantity is its whole position. Causes 2 to 8. Nothing given is changed.
 
-    >>> day, table = Day(2, h=ZoneDay(hours=24)), [2, -2] + 254 * [0]
+    >>> day, table = Day(2, length=24, h=ZoneDay(hours=24)), [2, -2] + 254 * [0]
     >>> close_zone(day, table, Zone.H, excess_price=20_000, shortfall_price=25_000).money
     [40000, -50000]
     """
@@ -604,8 +616,8 @@ class GasDay:
     Calls from several threads go one after the other. An object can be copied and pickled.
     """
 
-    def __init__(self, users: int) -> None:
-        self._begin(open_day(users))
+    def __init__(self, users: int, length: int) -> None:
+        self._begin(open_day(users, length))
 
     def _begin(self, state: State) -> None:
         self._turn = threading.Lock()
@@ -711,12 +723,13 @@ def _parser() -> argparse.ArgumentParser:
     settle = parser.add_subparsers(metavar="COMMAND", required=True).add_parser(
         "settle",
         help="settle the hours of files",
-        description="Opens a Gas Day for as many users as the first FILE has, and settles the hours of the files on it, in the order given. "
+        description="Opens a Gas Day of so many hours for as many users as the first FILE has, and settles the hours of the files on it, in the order given. "
         "Prints for each file a heading and each user's place, position before, quantity, money and position after.",
         epilog=_STATUS,
         allow_abbrev=False,
     )
     settle.add_argument("files", metavar="FILE", nargs="+", help="an hour's allocation file; - is standard input")
+    settle.add_argument("--length", type=_number, metavar="HOURS", required=True, help="the hours of the day: 24, and 23 or 25 on the days of a clock change")
     settle.add_argument("--month", type=_number, help="take the default thresholds of this month, 1 to 12")
     settle.add_argument("--upper", type=_number, metavar="KWH", help="the upper threshold, in place of a month's")
     settle.add_argument("--lower", type=_number, metavar="KWH", help="the lower threshold, in place of a month's")
@@ -764,7 +777,7 @@ def _settle_files(arguments: argparse.Namespace) -> int:
     for name in arguments.files:
         try:
             file = read_hour_file(_content(name))
-            day = day or GasDay(file.users)
+            day = day or GasDay(file.users, arguments.length)
             thresholds = _thresholds_of(arguments, file.zone)
             done = day.settle_file(file, thresholds, excess_price=arguments.excess_price, shortfall_price=arguments.shortfall_price)
         except Refusal as refusal:

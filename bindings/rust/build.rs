@@ -4,7 +4,7 @@ use std::path::{Path, PathBuf};
 use std::process::exit;
 use std::{env, fs};
 
-/// The calls that were added since the version's first: an older library lacks them.
+/// The calls that were added after the first library: one that lacks them is older than this crate.
 const ADDED: [&str; 1] = ["gas_day_write_hour_file"];
 
 fn folder() -> PathBuf {

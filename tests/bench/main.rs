@@ -7,6 +7,7 @@ use ordinary::random::Random;
 use std::time::Instant;
 
 const USERS: usize = 128;
+const LENGTH: i64 = 24;
 const INPUTS: usize = 64;
 const PASSES: usize = 40;
 const ROUNDS: usize = 25;
@@ -34,6 +35,7 @@ fn library_hour(input: &Input, lent: &mut Lent) -> u64 {
     let terms = input.hour.terms;
     let mut day = Day {
         users: input.users,
+        length: LENGTH,
         h: ZoneDay {
             hours: 1,
             closed: 0,
@@ -68,6 +70,7 @@ fn library_hour(input: &Input, lent: &mut Lent) -> u64 {
 fn ordinary_hour(input: &Input, lent: &mut Lent) -> u64 {
     let day = ordinary::Day {
         users: input.users,
+        length: LENGTH,
         hours: [1, input.hours_l],
         closed: [0, i64::from(input.closed_l)],
     };
@@ -160,7 +163,7 @@ const SPOILT: [Spoilt; 14] = [
 /// The hour is one of the L zone, which is closed.
 fn close_l(input: &mut Input) {
     input.zone = 1;
-    input.hours_l = 24;
+    input.hours_l = LENGTH;
     input.closed_l = true;
 }
 

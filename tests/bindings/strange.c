@@ -3,8 +3,8 @@
 
 uint64_t gas_day_version(void) { return VERSION; }
 
-gas_day_opened gas_day_open(int64_t users, int64_t *table, size_t table_places) {
-    (void)users, (void)table, (void)table_places;
+gas_day_opened gas_day_open(int64_t users, int64_t length, int64_t *table, size_t table_places) {
+    (void)users, (void)length, (void)table, (void)table_places;
     return (gas_day_opened){.cause = 256};
 }
 

@@ -7,7 +7,7 @@ const ZONE: ZoneDay = ZoneDay { hours: 0, closed: 0 };
 const TERMS: HourTerms = HourTerms { zone: 0, hour: 1, upper: 0, lower: 0, excess_price: 0, shortfall_price: 0 };
 
 fn open() {
-    let _ = gas_day::open(1, &mut [0; 256]);
+    let _ = gas_day::open(1, 24, &mut [0; 256]);
 }
 
 fn thresholds() {
@@ -17,13 +17,13 @@ fn thresholds() {
 fn settle() {
     let outputs = Outputs { quantity: &mut [0], money: &mut [0] };
     let amounts = Amounts { entry: &[0], exit: &[0], title: &[0], pooling: &[0] };
-    let _ = gas_day::settle_hour(&mut Day { users: 1, h: ZONE, l: ZONE }, &mut [0; 256], TERMS, amounts, outputs, &mut [0]);
+    let _ = gas_day::settle_hour(&mut Day { users: 1, length: 24, h: ZONE, l: ZONE }, &mut [0; 256], TERMS, amounts, outputs, &mut [0]);
 }
 
 fn close() {
     let outputs = Outputs { quantity: &mut [0], money: &mut [0] };
     let terms = ClosingTerms { zone: 0, excess_price: 0, shortfall_price: 0 };
-    let _ = gas_day::close_zone(&mut Day { users: 1, h: ZONE, l: ZONE }, &mut [0; 256], terms, outputs);
+    let _ = gas_day::close_zone(&mut Day { users: 1, length: 24, h: ZONE, l: ZONE }, &mut [0; 256], terms, outputs);
 }
 
 fn read() {

@@ -15,6 +15,8 @@ LIBRARIES = Path("target/bindings/lib").resolve()
 PYTHON = Path("bindings/python/gas_day.py")
 PYTHON_EDITS = {  # by the tests that have to tell them
     "test_[ad]*.py": [  # answers and arguments
+        ('_whole(length, "length"), *_lent(table)', 'length, *_lent(table)'),
+        ('_whole(day.length, "day.length")', "day.length"),
         ("hour.first | hour.second << 64", "hour.second | hour.first << 64"),
         ('_area(title, "title"), _area(pooling, "pooling")', '_area(pooling, "pooling"), _area(title, "title")'),
         ("_amounts(entry, exit, title, pooling)\n    return", "_amounts(exit, entry, title, pooling)\n    return"),
@@ -54,6 +56,7 @@ PYTHON_EDITS = {  # by the tests that have to tell them
         ("memoryview(file).tobytes()", "bytes(bytearray(file)) if isinstance(file, bytes) else bytes(file.obj if isinstance(file, memoryview) else file)"),
     ],
     "test_[ar]*.py": [  # refusals
+        ('_whole(length, "length"), *_lent(table)', 'min(max(_whole(length, "length"), LENGTH_LEAST), LENGTH_MOST), *_lent(table)'),
         ("    if answer.cause:", "    if answer.cause > 1:"),
         ("raise Refusal(call, Cause(answer.cause))", 'raise Refusal("gas_day", Cause(answer.cause))'),
         ("users = record.users if USERS_LEAST <= record.users <= USERS_MOST else 0", "users = record.users"),
@@ -63,6 +66,9 @@ PYTHON_EDITS = {  # by the tests that have to tell them
         ('_whole(zone.closed, f"{what}.closed")', 'bool(_whole(zone.closed, f"{what}.closed"))'),
     ],
     "test_[dr]*.py": [  # the day
+        ("self._begin(open_day(users, length))", "self._begin(open_day(users, LENGTH_USUAL))"),
+        ("Day(record.users, record.length, _zone_day", "Day(record.users, LENGTH_USUAL, _zone_day"),
+        ('_whole(day.length, "day.length")', "LENGTH_USUAL"),
         ("            self._keep(done.day, done.table)\n        return done\n\n    def settle_file", "        return done\n\n    def settle_file"),
         ("            self._keep(done.day, done.table)\n        return done\n\n    def __reduce__", "        return done\n\n    def __reduce__"),
         ("        with self._turn:  # no code", "        if True:  # no code"),
@@ -74,6 +80,7 @@ PYTHON_EDITS = {  # by the tests that have to tell them
     ],
     "test_loading.py": [  # loading
         ("        if version != VERSION:", "        if version < VERSION:"),
+        ("        if version != VERSION:", "        if version > VERSION:"),
         ('next((str(path) for path in near if path.exists()), file)', "file"),
         ('    if folder.parts[-2:] == ("bindings", "python"):', "    if True:"),
         ("    except (OSError, AttributeError) as error:", "    except OSError as error:"),
@@ -82,6 +89,8 @@ PYTHON_EDITS = {  # by the tests that have to tell them
         ('    if __name__ != "__main__":\n        raise', "    if True:\n        raise"),
     ],
     "test_shell.py": [  # the command
+        ("GasDay(file.users, arguments.length)", "GasDay(file.users, LENGTH_USUAL)"),
+        ('metavar="HOURS", required=True', 'metavar="HOURS", default=LENGTH_USUAL'),
         ("            return 1\n", "            return 2\n"),
         ('        print(f"gas_day: {message}", file=sys.stderr)', '        print(f"gas_day: {message}")'),
         ("    if sys.stderr is not None:  # print would take None for standard output\n        print", "    if True:\n        print"),
@@ -130,7 +139,10 @@ RUST_EDITS = [
     ("lib.rs", "Ok(written.bytes as usize)", "Ok(file.len())"),
     ("lib.rs", "            file.as_mut_ptr(),\n            file.len(),\n", "            file.as_mut_ptr(),\n            file.len().max(1) - 1,\n"),
     ("lib.rs", "            file.as_mut_ptr(),\n            file.len(),\n", "            file.as_mut_ptr(),\n            file.len().min(400),\n"),
-    ("cause.rs", "Pooling = 10,", "Pooling = 21,"),
+    ("cause.rs", "Pooling = 10,", "Pooling = 22,"),
+    ("cause.rs", "DayLength = 21,", "DayLength = 22,"),
+    ("lib.rs", "boundary::gas_day_open(users, length,", "boundary::gas_day_open(users, limits::LENGTH_USUAL,"),
+    ("lib.rs", "boundary::gas_day_open(users, length,", "boundary::gas_day_open(length, users,"),
     ("cause.rs", "cause.number() == number", "cause.number() == number & 0xff"),
     ("cause.rs", 'write!(to, "cause {}: {}", self.number(), self.words())', 'write!(to, "cause {}", self.number())'),
 ]
@@ -142,11 +154,17 @@ DECLARATION_EDITS = [
     ("gas_day.py", '("sold", c_int64), ("bought"', '("bought", c_int64), ("sold"'),
     ("gas_day.py", "*(6 * _NUMBERS), *_SCRATCH", "*(7 * _NUMBERS)"),
     ("gas_day.py", "*(2 * _NUMBERS)], _Closing", "*(2 * _NUMBERS)], _File"),
-    ("gas_day.py", "HOURS = 24", "HOURS = 25"),
+    ("gas_day.py", "LENGTH_USUAL = 24", "LENGTH_USUAL = 25"),
+    ("gas_day.py", "LENGTH_LEAST = 23", "LENGTH_LEAST = 22"),
+    ("gas_day.py", '("users", c_int64), ("length", c_int64)', '("length", c_int64), ("users", c_int64)'),
+    ("gas_day.py", '("users", c_int64), ("length", c_int64), ("h"', '("users", c_int64), ("h"'),
+    ("gas_day.py", "([c_int64, c_int64, *_NUMBERS], _Opened)", "([c_int64, *_NUMBERS, c_int64], _Opened)"),
+    ("gas_day.py", "    DAY_LENGTH = 21\n", "    DAY_LENGTH = 22\n"),
+    ("gas_day.py", '"opening: length not 23, 24 or 25"', '"opening: length not 24"'),
     ("gas_day.py", "EXIT_LEAST = -50_000_000", "EXIT_LEAST = 50_000_000"),
     ("gas_day.py", "    EXCESS = 1\n    SHORTFALL = 2", "    SHORTFALL = 1\n    EXCESS = 2"),
     ("gas_day.py", "    AMOUNT = 9\n    POOLING = 10", "    POOLING = 9\n    AMOUNT = 10"),
-    ("gas_day.py", "    WRITE_ROOM = 20\n", "    WRITE_ROOM = 20\n    WRITE_LATER = 21\n"),
+    ("gas_day.py", "    WRITE_ROOM = 20\n", "    WRITE_ROOM = 20\n    WRITE_LATER = 22\n"),
     ("gas_day.py", "    WRITE_COUNT = 18\n    WRITE_NUMBER = 19\n", "    WRITE_NUMBER = 18\n    WRITE_COUNT = 19\n"),
     ("gas_day.py", "more than nine digits or the hour is negative", "more than nine digits"),
     ("gas_day.py", "FILE_MWH_DECIMALS = 3", "FILE_MWH_DECIMALS = 2"),
@@ -162,7 +180,7 @@ DECLARATION_EDITS = [
     ("boundary.rs", "scratch: *mut u64", "scratch: *const u64"),
     ("boundary.rs", "    pub fn gas_day_version() -> u64;\n", ""),
     ("boundary.rs", "    pub lines: i64,\n", "    pub lines: i64,\n    pub spare: [u64; 4],\n"),
-    ("lib.rs", "pub const VERSION: u64 = 1;", "pub const VERSION: u64 = 2;"),
+    ("lib.rs", "pub const VERSION: u64 = 2;", "pub const VERSION: u64 = 1;"),
     ("limits.rs", "pub const PRICE_MOST: i64 = 10_000_000;", "pub const PRICE_MOST: i64 = 1_000_000;"),
     ("limits.rs", "pub const USERS_LEAST: i64 = 1;\n", ""),
     ("limits.rs", "pub const USERS_LEAST: i64 = 1;\n", "pub const USERS_LEAST: i64 = 1;\npub const ENTRY_MOST: i64 = 1;\n"),
@@ -178,7 +196,12 @@ DECLARATION_EDITS = [
     ("limits.rs", "pub const WRITE_BYTES_MOST: usize = 7_833;", "pub const WRITE_BYTES_MOST: usize = 7_832;"),
     ("cause.rs", "WriteNumber = 19,\n", "WriteDigits = 19,\n"),
     ("cause.rs", '"the lent bytes are too few"', '"too few lent bytes"'),
-    ("cause.rs", "    WriteRoom = 20,\n", "    WriteRoom = 20,\n    /// No cause.\n    WriteLater = 21,\n"),
+    ("cause.rs", "    WriteRoom = 20,\n", "    WriteRoom = 20,\n    /// No cause.\n    WriteLater = 22,\n"),
+    ("cause.rs", '"opening: length not 23, 24 or 25"', '"opening: length not 24"'),
+    ("cause.rs", "    DayLength = 21,\n", "    DayHours = 21,\n"),
+    ("boundary.rs", "users: i64, length: i64", "length: i64, users: i64"),
+    ("lib.rs", "    pub users: i64,\n    /// The hours that the day has: 23, 24 or 25.\n    pub length: i64,\n", "    pub length: i64,\n    /// The users.\n    pub users: i64,\n"),
+    ("limits.rs", "pub const LENGTH_MOST: i64 = 25;", "pub const LENGTH_MOST: i64 = 26;"),
 ]
 
 

@@ -1,6 +1,7 @@
 //! Calls made up at random: whole days with their conservation sums, single odd calls, openings, thresholds, files and writings.
 
 use crate::both::Run;
+use crate::counts::LENGTHS;
 use ordinary::made_up::{self, Kind};
 use ordinary::random::Random;
 use ordinary::spoilt::Call;
@@ -48,24 +49,32 @@ impl Sums {
     }
 }
 
-/// Whole days: hours of every kind and closings, accepted and refused, with the conservation sums.
+/// Whole days of each length, until both zones are closed: hours of every kind and closings, accepted and refused, with the conservation sums.
 pub fn days(run: &mut Run, seed: u64, rounds: usize) {
     let mut random = Random::new(seed);
     for round in 0..rounds {
         run.at = format!("days, seed {seed}, round {round}");
         let users = random.pick([1, 2, 3, 7, 64, 65, 128, 1 + round % 128]);
-        let (day, table) = run.opening(users as i64, 256).expect("opened");
+        let length = random.pick(LENGTHS);
+        let (day, table) = run.opening(users as i64, length, 256).expect("opened");
         let mut call = first_hour(day, table, &mut random);
         let mut sums = Sums::new();
-        for _ in 0..72 {
-            call.zone = random.between(0, 1);
-            if random.one_in(8) {
-                closing_of_day(run, &mut random, &mut call, &mut sums);
-            } else {
-                hour_of_day(run, &mut random, &mut call, &mut sums);
-            }
+        while call.day.closed != [1, 1] {
+            call_of_day(run, &mut random, &mut call, &mut sums);
         }
+        (0..4).for_each(|_| call_of_day(run, &mut random, &mut call, &mut sums));
         sums.conserved(&run.at, &call.table);
+        run.counts.count("days to both closings by length of the day", &length.to_string());
+    }
+}
+
+/// An hour, or now and then a closing, of either zone.
+fn call_of_day(run: &mut Run, random: &mut Random, call: &mut Call, sums: &mut Sums) {
+    call.zone = random.between(0, 1);
+    if random.one_in(8) {
+        closing_of_day(run, random, call, sums);
+    } else {
+        hour_of_day(run, random, call, sums);
     }
 }
 
@@ -120,7 +129,7 @@ pub fn odd_calls(run: &mut Run, seed: u64, rounds: usize) {
 fn odd(random: &mut Random, users: usize, call: &mut Call) {
     let number = made_up::odd_number(random);
     let length = random.pick([0, users - 1, users + 1]);
-    match random.below(16) {
+    match random.below(17) {
         0 => call.day.users = number,
         1 => call.day.hours[random.below(2)] = number,
         2 => call.day.closed[random.below(2)] = random.pick([0, 1, 2, number]),
@@ -138,6 +147,7 @@ fn odd(random: &mut Random, users: usize, call: &mut Call) {
         11 => call.quantity.resize(length, 9),
         12 => call.money.resize(length, 9),
         13 => call.scratch.resize(length, 9),
+        14 => call.day.length = random.pick([22, 23, 24, 25, 26, number]),
         _ => made_up::spoil(random, &mut call.amounts),
     }
 }
@@ -151,7 +161,9 @@ pub fn small_calls(run: &mut Run, seed: u64, rounds: usize) {
         let any = random.between(1, 128);
         let users = random.pick([0, 1, 128, 129, -1, any, any, number]);
         let places = random.pick([0, 1, 128, 255, 256, 256, 256, 257]);
-        let _ = run.opening(users, places);
+        let hours = random.pick(LENGTHS);
+        let length = random.pick([22, hours, hours, hours, hours, 26, number]);
+        let _ = run.opening(users, length, places);
         let month = random.pick([number, number % 24, any % 12 + 1]);
         let number = made_up::odd_number(&mut random);
         let zone = random.pick([0, 1, number]);

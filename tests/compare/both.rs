@@ -20,6 +20,7 @@ fn as_library(day: ordinary::Day) -> Day {
     };
     Day {
         users: day.users,
+        length: day.length,
         h: zone(0),
         l: zone(1),
     }
@@ -28,6 +29,7 @@ fn as_library(day: ordinary::Day) -> Day {
 fn as_ordinary(day: Day) -> ordinary::Day {
     ordinary::Day {
         users: day.users,
+        length: day.length,
         hours: [day.h.hours, day.l.hours],
         closed: [day.h.closed, day.l.closed],
     }
@@ -162,6 +164,11 @@ fn unit_of(bytes: &[u8], lines: i64) -> &'static str {
     }
 }
 
+/// The hours done in the zone that is called, which is one.
+fn done(call: &Call) -> i64 {
+    call.day.hours[call.zone as usize]
+}
+
 impl Run {
     /// An hour, from the same state; the call is left as the library left it. Answers the cause.
     pub fn hour(&mut self, call: &mut Call) -> u64 {
@@ -174,6 +181,13 @@ impl Run {
         if expected.0 == 0 {
             self.counts.count("accepted hours by side", ["within", "excess", "shortfall"][expected.1 as usize]);
         }
+        let last = before.day.length;
+        match expected.0 {
+            0 if before.hour == last => self.of_length("last hours by length of the day", last),
+            0 => self.of_length("hours before the last by length of the day", last),
+            6 if done(&before) == last && before.hour == last + 1 => self.of_length("hours after the last, refused, by length of the day", last),
+            _ => (),
+        }
         expected.0
     }
 
@@ -185,7 +199,17 @@ impl Run {
         let found = library_closing(call);
         self.same("a closing", &before, (found, call), (expected, &other), expected.0);
         self.counts.call("closings by cause", expected.0);
+        let length = before.day.length;
+        match expected.0 {
+            0 => self.of_length("closings after the last hour by length of the day", length),
+            6 if done(&before) == length - 1 => self.of_length("closings an hour early, refused, by length of the day", length),
+            _ => (),
+        }
         expected.0
+    }
+
+    fn of_length(&mut self, row: &str, length: i64) {
+        self.counts.count(row, &length.to_string());
     }
 
     fn same<A: PartialEq + std::fmt::Debug>(&self, what: &str, before: &Call, found: (A, &mut Call), expected: (A, &Call), cause: u64) {
@@ -198,14 +222,17 @@ impl Run {
     }
 
     /// An opening with a table of so many places. Answers the record and the table, or the cause.
-    pub fn opening(&mut self, users: i64, places: usize) -> Result<(ordinary::Day, Vec<i64>), u64> {
+    pub fn opening(&mut self, users: i64, length: i64, places: usize) -> Result<(ordinary::Day, Vec<i64>), u64> {
         let before: Vec<i64> = (0..places as i64).map(|place| place - 7).collect();
         let (mut table, mut other) = (before.clone(), before.clone());
-        let answer = ordinary::open(users, &mut other);
-        let found = gas_day::open(users, &mut table).map(as_ordinary).map_err(Cause::number);
-        assert_eq!((found, &table), (answer, &other), "{}: an opening for {users} users differs", self.at);
+        let answer = ordinary::open(users, length, &mut other);
+        let found = gas_day::open(users, length, &mut table).map(as_ordinary).map_err(Cause::number);
+        assert_eq!((found, &table), (answer, &other), "{}: an opening for {users} users and {length} hours differs", self.at);
         assert!(found.is_ok() || table == before, "{}: a refused opening changed the table", self.at);
         self.counts.call("openings by cause", found.err().unwrap_or(0));
+        if found.is_ok() {
+            self.of_length("accepted openings by length of the day", length);
+        }
         answer.map(|day| (day, table))
     }
 

@@ -10,8 +10,12 @@ const LEAST_OF_A_KIND: u64 = 1_000;
 const LEAST_OF_A_SIDE: u64 = 5_000;
 const LEAST_OF_A_CAUSE: u64 = 500;
 const LEAST_ACCEPTED: u64 = 1_000;
+const LEAST_OF_A_DAY: u64 = 500;
 const LEAST_OF_A_PART: u64 = 200;
 const LEAST_OF_A_PAIR: u64 = 20;
+
+pub const LENGTHS: [i64; 3] = [23, 24, 25];
+const OPENING_PARTS: [&str; 6] = ["1 users below 1", "1 users above 128", "21 length below 23", "21 length above 25", "3 table too short", "3 table too long"];
 
 /// What is counted under one name, each item with its number.
 struct Row {
@@ -25,8 +29,10 @@ pub struct Counts {
     pub calls: u64,
 }
 
-/// Pairs of causes that cannot come together: a closed zone with fewer than 24 hours done is refused by cause 2.
+/// Pairs of causes that cannot come together: a closed zone with fewer hours done than the day has is refused by cause 2.
 pub const NO_CLOSING_PAIR: (u64, u64) = (5, 6);
+/// At opening 21 comes after 1 and before 3.
+pub const OPENING_PAIRS: [(u64, u64); 3] = [(1, 21), (1, 3), (21, 3)];
 /// A file that has no line after the header has none that is wrong.
 pub const FILE_PAIRS: [(u64, u64); 9] = [(12, 13), (12, 14), (12, 15), (12, 16), (12, 17), (13, 14), (13, 15), (13, 16), (13, 17)];
 /// Within one line the lower number is given, over two lines that of the first line.
@@ -73,9 +79,16 @@ impl Counts {
             row("accepted calls", LEAST_ACCEPTED, ["hours", "closings", "openings", "thresholds", "files", "writings"]),
             row("accepted writings by room", LEAST_ACCEPTED, ROOMS.map(|(name, _)| name)),
             row("files that were read and written again", LEAST_ACCEPTED, UNITS),
+            row("accepted openings by length of the day", LEAST_OF_A_KIND, LENGTHS),
+            row("days to both closings by length of the day", LEAST_OF_A_DAY, LENGTHS),
+            row("hours before the last by length of the day", LEAST_OF_A_KIND, LENGTHS),
+            row("last hours by length of the day", LEAST_OF_A_KIND, LENGTHS),
+            row("hours after the last, refused, by length of the day", LEAST_OF_A_PART, LENGTHS),
+            row("closings an hour early, refused, by length of the day", LEAST_OF_A_PART, LENGTHS),
+            row("closings after the last hour by length of the day", LEAST_OF_A_KIND, LENGTHS),
             row("hours by cause", LEAST_OF_A_CAUSE, 2..=11),
             row("closings by cause", LEAST_OF_A_CAUSE, 2..=8),
-            row("openings by cause", LEAST_OF_A_CAUSE, [1, 3]),
+            row("openings by cause", LEAST_OF_A_CAUSE, [1, 21, 3]),
             row("thresholds by cause", LEAST_OF_A_CAUSE, [4, 8]),
             row("files by cause", LEAST_OF_A_CAUSE, 12..=17),
             row("writings by cause", LEAST_OF_A_CAUSE, 18..=20),
@@ -83,14 +96,14 @@ impl Counts {
             parts("hours of zone L by part of a cause", &hour_ways()),
             parts("closings of zone H by part of a cause", &closing_ways()),
             parts("closings of zone L by part of a cause", &closing_ways()),
-            row("openings by part of a cause", LEAST_OF_A_PART, ["1 users below 1", "1 users above 128", "3 table too short", "3 table too long"]),
+            row("openings by part of a cause", LEAST_OF_A_PART, OPENING_PARTS),
             row("thresholds by part of a cause", LEAST_OF_A_PART, ["4 zone below 0", "4 zone above 1", "8 month below 1", "8 month above 12"]),
             row("files by part of a cause", LEAST_OF_A_PART, spoilt_file::WAYS.iter().map(|way| part_name(way.cause, way.part))),
             row("writings of zone H by part of a cause", LEAST_OF_A_PART, WRITING_WAYS.iter().map(|way| part_name(way.cause, way.part))),
             row("writings of zone L by part of a cause", LEAST_OF_A_PART, WRITING_WAYS.iter().map(|way| part_name(way.cause, way.part))),
             pairs_row("hours by pair of causes", &pairs(2..=11)),
             pairs_row("closings by pair of causes", &closing_pairs()),
-            pairs_row("openings by pair of causes", &[(1, 3)]),
+            pairs_row("openings by pair of causes", &OPENING_PAIRS),
             pairs_row("thresholds by pair of causes", &[(4, 8)]),
             pairs_row("files by pair of causes", &FILE_PAIRS),
             pairs_row("files by pair of causes in one line", &LINE_PAIRS),

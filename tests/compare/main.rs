@@ -15,7 +15,9 @@ fn main() {
         at: String::new(),
         counts: Counts::new(),
     };
-    // some files and writings first, and most of them last: so a wrong settlement is told as soon as a wrong reader or writer is
+    // some calls of each kind first, and most of them last: so what is wrong is told soon
+    on_purpose::small_calls(&mut run, 17, 20);
+    on_purpose::hours_and_closings(&mut run, 18, 4);
     on_purpose::files(&mut run, 16, 20);
     at_random::writings(&mut run, 12, 2_000);
     on_purpose::writings(&mut run, 14, 20);
@@ -36,7 +38,7 @@ fn main() {
     at_random::writings(&mut run, 13, 20_000);
     on_purpose::writings(&mut run, 15, 400);
 
-    println!("seeds: 1 to 3 days, 4 and 5 odd calls, 6 openings and thresholds, 7 and 8 files, 12 and 13 writings, 9 to 11 and 14 to 16 calls spoilt on purpose");
+    println!("seeds: 1 to 3 days, 4 and 5 odd calls, 6 openings and thresholds, 7 and 8 files, 12 and 13 writings, 9 to 11 and 14 to 18 calls spoilt on purpose");
     let short = run.counts.print();
     if short > 0 {
         println!("compared: {} calls, {short} numbers below their least", run.counts.calls);

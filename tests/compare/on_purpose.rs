@@ -1,7 +1,7 @@
 //! Calls spoilt on purpose: by every part of every cause, in both zones, and by every two causes that can come together, so that the first is answered.
 
 use crate::both::Run;
-use crate::counts::{closing_pairs, pair_name, pairs, part_name, FILE_PAIRS, LINE_PAIRS, TWO_LINES};
+use crate::counts::{closing_pairs, pair_name, pairs, part_name, FILE_PAIRS, LENGTHS, LINE_PAIRS, TWO_LINES};
 use ordinary::present::{closing_causes, hour_causes, writing_causes};
 use ordinary::random::Random;
 use ordinary::spoilt::{closing_ways, fit_closing, fit_hour, hour_ways, Call, Way};
@@ -109,19 +109,32 @@ pub fn small_calls(run: &mut Run, seed: u64, rounds: usize) {
 }
 
 fn openings(run: &mut Run, random: &mut Random) {
-    let fit = random.between(1, 128);
+    let (fit, hours) = (random.between(1, 128), random.pick(LENGTHS));
     let (few, many) = (below(random, 1), above(random, 128));
+    let (under, over) = (below(random, 23), above(random, 25));
     let (short, long) = (random.pick([0, 128, 255]), random.pick([257, 384, 512]));
-    let calls = [("1 users below 1", few, 256), ("1 users above 128", many, 256), ("3 table too short", fit, short), ("3 table too long", fit, long)];
-    for (part, users, places) in calls {
-        let cause = run.opening(users, places).err().unwrap_or(0);
+    let calls = [
+        ("1 users below 1", few, hours, 256),
+        ("1 users above 128", many, hours, 256),
+        ("21 length below 23", fit, under, 256),
+        ("21 length above 25", fit, over, 256),
+        ("3 table too short", fit, hours, short),
+        ("3 table too long", fit, hours, long),
+    ];
+    for (part, users, length, places) in calls {
+        let cause = run.opening(users, length, places).err().unwrap_or(0);
         if part.starts_with(&format!("{cause} ")) {
             run.counts.count("openings by part of a cause", part);
         }
     }
-    if run.opening(random.pick([few, many]), random.pick([short, long])) == Err(1) {
-        run.counts.count("openings by pair of causes", &pair_name((1, 3)));
+    let (users, length, places) = (random.pick([few, many]), random.pick([under, over]), random.pick([short, long]));
+    let calls = [((1, 21), users, length, 256), ((1, 3), users, hours, places), ((21, 3), fit, length, places)];
+    for (pair, users, length, places) in calls {
+        if run.opening(users, length, places) == Err(pair.0) {
+            run.counts.count("openings by pair of causes", &pair_name(pair));
+        }
     }
+    assert_eq!(run.opening(users, length, places), Err(1), "{}: not the first cause that applies", run.at);
 }
 
 fn thresholds(run: &mut Run, random: &mut Random) {

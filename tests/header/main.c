@@ -1,6 +1,6 @@
 /* The header against the library: a worked day through every call, every member of every answer, and every constant by what the library does with it. A struct with two
  * members exchanged, a cause by another's number or a limit that is off by one fails here (exchanges.py tries them all). The figures are worked out by hand from
- * document 01. */
+ * documents 01 and 02. */
 #include "gas_day.h"
 
 #include <inttypes.h>
@@ -51,15 +51,18 @@ static gas_day_closing close_zone(gas_day_day day, gas_day_closing_terms terms) 
     return gas_day_close_zone(day, lent.table, GAS_DAY_TABLE_PLACES, terms, lent.quantity, USERS, lent.money, USERS);
 }
 
-static void day_is(gas_day_day day, int64_t users, int64_t h_hours, int64_t h_closed, int64_t l_hours, int64_t l_closed) {
+static void day_is(gas_day_day day, int64_t users, int64_t length, int64_t h_hours, int64_t h_closed, int64_t l_hours, int64_t l_closed) {
     IS(day.users, users);
+    IS(day.length, length);
     IS(day.h.hours, h_hours);
     IS(day.h.closed, h_closed);
     IS(day.l.hours, l_hours);
     IS(day.l.closed, l_closed);
 }
 
-static void same_day(gas_day_day day, gas_day_day given) { day_is(day, given.users, given.h.hours, given.h.closed, given.l.hours, given.l.closed); }
+static void same_day(gas_day_day day, gas_day_day given) {
+    day_is(day, given.users, given.length, given.h.hours, given.h.closed, given.l.hours, given.l.closed);
+}
 
 static void hour_is(gas_day_hour hour, uint64_t cause, uint64_t side, int64_t total, uint64_t first, uint64_t second, uint64_t number) {
     IS(hour.cause, cause);
@@ -113,34 +116,39 @@ static gas_day_hour_terms wide(int64_t zone, int64_t hour) {
 
 /* ---- opening and thresholds */
 
-static gas_day_day opened_day(void) {
+static gas_day_day opened_day(int64_t length) {
     for (int p = 0; p < GAS_DAY_TABLE_PLACES; p++) lent.table[p] = ODD;
-    gas_day_opened opened = gas_day_open(USERS, lent.table, GAS_DAY_TABLE_PLACES);
+    gas_day_opened opened = gas_day_open(USERS, length, lent.table, GAS_DAY_TABLE_PLACES);
     IS(opened.cause, GAS_DAY_ACCEPTED);
-    day_is(opened.day, USERS, 0, 0, 0, 0);
+    day_is(opened.day, USERS, length, 0, 0, 0, 0);
     for (int p = 0; p < GAS_DAY_TABLE_PLACES; p++) IS(lent.table[p], 0);
     return opened.day;
 }
 
-static void open_refused(int64_t users, size_t places, uint64_t cause) {
+static void open_refused(int64_t users, int64_t length, size_t places, uint64_t cause) {
     static int64_t table[GAS_DAY_TABLE_PLACES + 1];
     table[0] = table[places == 0 ? 0 : places - 1] = ODD;
-    gas_day_opened opened = gas_day_open(users, places == 0 ? NULL : table, places);
+    gas_day_opened opened = gas_day_open(users, length, places == 0 ? NULL : table, places);
     IS(opened.cause, cause);
-    day_is(opened.day, 0, 0, 0, 0, 0);
+    day_is(opened.day, 0, 0, 0, 0, 0, 0);
     IS(table[0], ODD);
     IS(table[places == 0 ? 0 : places - 1], ODD);
 }
 
 static void openings(void) {
     static int64_t table[GAS_DAY_TABLE_PLACES];
-    IS(gas_day_open(GAS_DAY_USERS_LEAST, table, GAS_DAY_TABLE_PLACES).cause, GAS_DAY_ACCEPTED);
-    IS(gas_day_open(GAS_DAY_USERS_MOST, table, GAS_DAY_TABLE_PLACES).day.users, GAS_DAY_USERS_MOST);
-    open_refused(GAS_DAY_USERS_LEAST - 1, GAS_DAY_TABLE_PLACES, GAS_DAY_CAUSE_USERS);
-    open_refused(GAS_DAY_USERS_MOST + 1, GAS_DAY_TABLE_PLACES, GAS_DAY_CAUSE_USERS);
-    open_refused(GAS_DAY_USERS_MOST, GAS_DAY_TABLE_PLACES + 1, GAS_DAY_CAUSE_LENGTH);
-    open_refused(GAS_DAY_USERS_MOST, GAS_DAY_TABLE_PLACES - 1, GAS_DAY_CAUSE_LENGTH);
-    open_refused(GAS_DAY_USERS_MOST, 0, GAS_DAY_CAUSE_LENGTH);
+    IS(gas_day_open(GAS_DAY_USERS_LEAST, GAS_DAY_LENGTH_LEAST, table, GAS_DAY_TABLE_PLACES).cause, GAS_DAY_ACCEPTED);
+    IS(gas_day_open(GAS_DAY_USERS_MOST, GAS_DAY_LENGTH_MOST, table, GAS_DAY_TABLE_PLACES).day.users, GAS_DAY_USERS_MOST);
+    IS(gas_day_open(GAS_DAY_USERS_MOST, GAS_DAY_LENGTH_USUAL, table, GAS_DAY_TABLE_PLACES).day.length, 24);
+    open_refused(GAS_DAY_USERS_LEAST - 1, GAS_DAY_LENGTH_USUAL, GAS_DAY_TABLE_PLACES, GAS_DAY_CAUSE_USERS);
+    open_refused(GAS_DAY_USERS_MOST + 1, GAS_DAY_LENGTH_USUAL, GAS_DAY_TABLE_PLACES, GAS_DAY_CAUSE_USERS);
+    open_refused(GAS_DAY_USERS_MOST, GAS_DAY_LENGTH_LEAST - 1, GAS_DAY_TABLE_PLACES, GAS_DAY_CAUSE_DAY_LENGTH);
+    open_refused(GAS_DAY_USERS_MOST, GAS_DAY_LENGTH_MOST + 1, GAS_DAY_TABLE_PLACES, GAS_DAY_CAUSE_DAY_LENGTH);
+    open_refused(GAS_DAY_USERS_MOST, GAS_DAY_LENGTH_USUAL, GAS_DAY_TABLE_PLACES + 1, GAS_DAY_CAUSE_LENGTH);
+    open_refused(GAS_DAY_USERS_MOST, GAS_DAY_LENGTH_USUAL, GAS_DAY_TABLE_PLACES - 1, GAS_DAY_CAUSE_LENGTH);
+    open_refused(GAS_DAY_USERS_MOST, GAS_DAY_LENGTH_USUAL, 0, GAS_DAY_CAUSE_LENGTH);
+    open_refused(GAS_DAY_USERS_MOST + 1, INT64_MAX, 0, GAS_DAY_CAUSE_USERS);
+    open_refused(GAS_DAY_USERS_MOST, INT64_MIN, 0, GAS_DAY_CAUSE_DAY_LENGTH);
 }
 
 static void thresholds(int64_t month, int64_t zone, uint64_t cause, int64_t upper) {
@@ -170,7 +178,7 @@ static gas_day_day excess(gas_day_day day) {
     lent.pooling[2] = -1;
     lent.exit[2] = -3;
     gas_day_hour hour = settle(day, terms_of(0, 1, 27, -1000, 20, 25));
-    day_is(hour.day, USERS, 1, 0, 0, 0);
+    day_is(hour.day, USERS, day.length, 1, 0, 0, 0);
     hour_is(hour, GAS_DAY_ACCEPTED, GAS_DAY_EXCESS, 9, 2, 7, 4);
     for (int g = 0; g < USERS; g++) {
         int64_t quantity = g == 1 ? 3 : g >= 64 ? 2 : 0;
@@ -189,7 +197,7 @@ static gas_day_day shortfall(gas_day_day day) {
     lent.exit[0] = -8;
     lent.title[66] = -4;
     gas_day_hour hour = settle(day, terms_of(1, 1, 1000, -6, 20, 25));
-    day_is(hour.day, USERS, 1, 0, 1, 0);
+    day_is(hour.day, USERS, day.length, 1, 0, 1, 0);
     hour_is(hour, GAS_DAY_ACCEPTED, GAS_DAY_SHORTFALL, 6, 1, 4, 2);
     IS(lent.quantity[0], -4);
     IS(lent.quantity[66], -2);
@@ -204,15 +212,15 @@ static gas_day_day shortfall(gas_day_day day) {
 /* The H zone's hours from 2 to the day's last, within their thresholds; none after it, and no closing before it. */
 static gas_day_day to_the_last_hour(gas_day_day day) {
     gas_day_closing_terms closing = {0, 1, 1};
-    for (int64_t h = 2; h <= GAS_DAY_HOURS; h++) {
+    for (int64_t h = 2; h <= day.length; h++) {
         no_amounts();
         closing_refused(day, closing, GAS_DAY_CAUSE_HOUR);
         gas_day_hour hour = settle(day, wide(0, h));
-        day_is(hour.day, USERS, h, 0, 1, 0);
+        day_is(hour.day, USERS, day.length, h, 0, 1, 0);
         hour_is(hour, GAS_DAY_ACCEPTED, GAS_DAY_WITHIN, 0, 0, 0, 0);
         day = hour.day;
     }
-    hour_refused(day, wide(0, GAS_DAY_HOURS + 1), GAS_DAY_CAUSE_HOUR);
+    hour_refused(day, wide(0, day.length + 1), GAS_DAY_CAUSE_HOUR);
     return day;
 }
 
@@ -225,7 +233,7 @@ static gas_day_day closing(gas_day_day day) {
     terms.shortfall_price = 35;
     gas_day_closing answer = close_zone(day, terms);
     IS(answer.cause, GAS_DAY_ACCEPTED);
-    day_is(answer.day, USERS, GAS_DAY_HOURS, 1, 1, 0);
+    day_is(answer.day, USERS, day.length, day.length, 1, 1, 0);
     IS(answer.sold, 31);
     IS(answer.bought, 4);
     for (int g = 0; g < USERS; g++) {
@@ -235,10 +243,12 @@ static gas_day_day closing(gas_day_day day) {
         IS(lent.table[g], 0);
     }
     IS(lent.table[GAS_DAY_ZONE_PLACES], -4);
-    hour_refused(answer.day, wide(0, GAS_DAY_HOURS), GAS_DAY_CAUSE_CLOSED);
+    hour_refused(answer.day, wide(0, day.length), GAS_DAY_CAUSE_CLOSED);
     closing_refused(answer.day, terms, GAS_DAY_CAUSE_CLOSED);
     return answer.day;
 }
+
+static gas_day_day worked_day(int64_t length) { return closing(to_the_last_hour(shortfall(excess(opened_day(length))))); }
 
 /* ---- every limit of an hour, and one beyond it, on a day whose L zone has an hour done */
 
@@ -295,7 +305,7 @@ static void limits_of_terms(gas_day_day day) {
 
 /* The price of a closing, on a day whose L zone has all its hours done. */
 static void limits_of_a_closing(gas_day_day day) {
-    day.l.hours = GAS_DAY_HOURS;
+    day.l.hours = day.length;
     gas_day_closing_terms terms = {1, GAS_DAY_PRICE_MOST + 1, 0};
     closing_refused(day, terms, GAS_DAY_CAUSE_TERMS);
     terms.excess_price = 0;
@@ -315,7 +325,7 @@ static void records(gas_day_day day) {
     static const int64_t odd[] = {2, -1, 256, INT64_MAX, INT64_MIN};
     gas_day_hour_terms hour = wide(1, day.l.hours + 1);
     gas_day_closing_terms closing_terms = {1, 0, 0};
-    gas_day_day spoilt[14];
+    gas_day_day spoilt[17];
     size_t n = 0;
     for (size_t i = 0; i < sizeof odd / sizeof *odd; i++) {
         spoilt[n] = spoilt[n + 1] = day;
@@ -325,8 +335,13 @@ static void records(gas_day_day day) {
     spoilt[n] = spoilt[n + 1] = spoilt[n + 2] = spoilt[n + 3] = day;
     spoilt[n++].users = GAS_DAY_USERS_LEAST - 1;
     spoilt[n++].users = GAS_DAY_USERS_MOST + 1;
-    spoilt[n++].h.hours = GAS_DAY_HOURS + 1;
+    spoilt[n++].h.hours = day.length + 1;
     spoilt[n++].l.closed = 1; /* with an hour done */
+    day.h.hours = day.h.closed = 0; /* so that only the length is wrong */
+    spoilt[n] = spoilt[n + 1] = spoilt[n + 2] = day;
+    spoilt[n++].length = GAS_DAY_LENGTH_LEAST - 1;
+    spoilt[n++].length = GAS_DAY_LENGTH_MOST + 1;
+    spoilt[n++].length = INT64_MIN;
     for (size_t i = 0; i < n; i++) {
         hour_refused(spoilt[i], hour, GAS_DAY_CAUSE_RECORD);
         closing_refused(spoilt[i], closing_terms, GAS_DAY_CAUSE_RECORD);
@@ -534,7 +549,9 @@ int main(void) {
     IS(gas_day_version(), GAS_DAY_VERSION);
     openings();
     default_thresholds();
-    gas_day_day day = closing(to_the_last_hour(shortfall(excess(opened_day()))));
+    worked_day(GAS_DAY_LENGTH_LEAST);
+    worked_day(GAS_DAY_LENGTH_USUAL);
+    gas_day_day day = worked_day(GAS_DAY_LENGTH_MOST);
     limits_of_amounts(day);
     limits_of_positions(day);
     limits_of_terms(day);

@@ -17,7 +17,7 @@ enum Of {
 }
 
 fn record(day: &Day) -> String {
-    format!("[{}, {}, {}, {}, {}]", day.users, day.hours[0], day.closed[0], day.hours[1], day.closed[1])
+    format!("[{}, {}, {}, {}, {}, {}]", day.users, day.length, day.hours[0], day.closed[0], day.hours[1], day.closed[1])
 }
 
 fn given(of: Of, call: &Call) -> String {
@@ -43,9 +43,15 @@ fn lent(call: &Call) -> String {
     )
 }
 
-fn opening(users: i64) {
-    let cause = ordinary::open(users, &mut [0; 256]).err().unwrap_or(0);
-    println!(r#"{{"call": "open_day", "users": {users}, "cause": {cause}}}"#);
+fn opening(users: i64, length: i64) {
+    let cause = ordinary::open(users, length, &mut [0; 256]).err().unwrap_or(0);
+    println!(r#"{{"call": "open_day", "users": {users}, "length": {length}, "cause": {cause}}}"#);
+}
+
+fn openings() {
+    for users in [i64::MIN, -1, 0, 1, 2, 127, 128, 129, 257, i64::MAX] {
+        [24, 23, 25, 22, 26, 0, -24, i64::MIN, i64::MAX].into_iter().for_each(|length| opening(users, length));
+    }
 }
 
 fn thresholds(month: i64, zone: i64) {
@@ -109,10 +115,10 @@ fn writing(mut writing: Writing) {
 }
 
 /// A whole day: all hours of both zones, mixed and of every kind, spoilt ones among them; closings that come too early, in time and twice.
-fn day(random: &mut Random, users: usize) {
-    opening(users as i64);
+fn day(random: &mut Random, users: usize, length: i64) {
+    opening(users as i64, length);
     let mut table = vec![0; 256];
-    let record = ordinary::open(users as i64, &mut table).expect("opened");
+    let record = ordinary::open(users as i64, length, &mut table).expect("opened");
     let amounts = made_up::hour(random, users, Kind::Within, &[]);
     let mut call = Call::new(record, table, 0, 1, amounts);
     while call.day.closed != [1, 1] {
@@ -135,11 +141,13 @@ fn day(random: &mut Random, users: usize) {
 
 fn main() {
     let mut random = Random::new(1);
-    [i64::MIN, -1, 0, 1, 2, 127, 128, 129, 257, i64::MAX].into_iter().for_each(opening);
+    openings();
     for month in -1..=14 {
         (-1..=2).for_each(|zone| thresholds(month, zone));
     }
-    [1, 2, 3, 64, 65, 128].into_iter().for_each(|users| day(&mut random, users));
+    for (users, length) in [(1, 24), (2, 23), (3, 25), (64, 24), (65, 23), (128, 25)] {
+        day(&mut random, users, length);
+    }
     for zone in [0, 1, 0, 1] {
         for way in hour_ways() {
             let mut call = fit_hour(&mut random, zone);

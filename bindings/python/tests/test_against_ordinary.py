@@ -11,7 +11,7 @@ from gas_day import Day, GasDay, HourFile, Outcome, Refusal, Side, State, Thresh
 
 LISTS = ("entry", "exit", "title", "pooling")
 CAUSES = {
-    "open_day": [0, 1],
+    "open_day": [0, 1, 21],
     "default_thresholds": [0, 4, 8],
     "settle_hour": [0, *range(2, 12)],
     "close_zone": [0, *range(2, 9)],
@@ -21,8 +21,8 @@ CAUSES = {
 
 
 def record(numbers):
-    users, h_hours, h_closed, l_hours, l_closed = numbers
-    return Day(users, ZoneDay(h_hours, h_closed), ZoneDay(l_hours, l_closed))
+    users, length, h_hours, h_closed, l_hours, l_closed = numbers
+    return Day(users, length, ZoneDay(h_hours, h_closed), ZoneDay(l_hours, l_closed))
 
 
 def answer(call, *arguments, **more):
@@ -51,10 +51,11 @@ class AgainstOrdinary(unittest.TestCase):
 
     def open_day(self, vector):
         refused = (vector["cause"], "open_day")
-        opened = State(Day(vector["users"], ZoneDay(0, False), ZoneDay(0, False)), 256 * [0])
-        self.assertEqual(answer(gas_day.open_day, vector["users"]), refused if vector["cause"] else opened)
+        given = vector["users"], vector["length"]
+        opened = State(Day(*given, ZoneDay(0, False), ZoneDay(0, False)), 256 * [0])
+        self.assertEqual(answer(gas_day.open_day, *given), refused if vector["cause"] else opened)
         if not vector["cause"]:
-            self.day = GasDay(vector["users"])
+            self.day = GasDay(*given)
 
     def default_thresholds(self, vector):
         refused = (vector["cause"], "default_thresholds")

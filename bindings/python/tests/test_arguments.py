@@ -26,8 +26,10 @@ class Index:
 
 # Every place where a call takes one number: the call, for a number, and the cause for the numbers at the ends of 64 bits (0: it is taken).
 PLACES = {
-    "users": (1, lambda x: gas_day.open_day(x)),
-    "users of a GasDay": (1, lambda x: GasDay(x)),
+    "users": (1, lambda x: gas_day.open_day(x, 24)),
+    "users of a GasDay": (1, lambda x: GasDay(x, 24)),
+    "length": (21, lambda x: gas_day.open_day(2, x)),
+    "length of a GasDay": (21, lambda x: GasDay(2, x)),
     "month": (8, lambda x: gas_day.default_thresholds(x, 0)),
     "zone of thresholds": (4, lambda x: gas_day.default_thresholds(1, x)),
     "zone": (4, lambda x: hour_of(zone=x)),
@@ -36,34 +38,37 @@ PLACES = {
     "lower": (8, lambda x: hour_of(thresholds=Thresholds(0, x))),
     "excess price": (8, lambda x: hour_of(prices={"excess_price": x, "shortfall_price": 0})),
     "shortfall price": (8, lambda x: hour_of(prices={"excess_price": 0, "shortfall_price": x})),
-    "record's users": (2, lambda x: hour_of(Day(x))),
-    "record's hours of H": (2, lambda x: hour_of(Day(2, ZoneDay(x)))),
-    "record's hours of L": (2, lambda x: hour_of(Day(2, ZoneDay(), ZoneDay(x)))),
-    "record's mark of H": (2, lambda x: hour_of(Day(2, ZoneDay(24, x)))),
-    "record's mark of L": (2, lambda x: hour_of(Day(2, ZoneDay(), ZoneDay(24, x)))),
+    "record's users": (2, lambda x: hour_of(Day(x, 24))),
+    "record's length": (2, lambda x: hour_of(Day(2, x))),
+    "record's hours of H": (2, lambda x: hour_of(Day(2, 24, ZoneDay(x)))),
+    "record's hours of L": (2, lambda x: hour_of(Day(2, 24, ZoneDay(), ZoneDay(x)))),
+    "record's mark of H": (2, lambda x: hour_of(Day(2, 24, ZoneDay(24, x)))),
+    "record's mark of L": (2, lambda x: hour_of(Day(2, 24, ZoneDay(), ZoneDay(24, x)))),
     "a place of the table": (7, lambda x: hour_of(table=255 * [0] + [x])),
     "an entry": (9, lambda x: hour_of(entry=[0, x])),
     "an exit": (9, lambda x: hour_of(exit=[x, 0])),
     "a title amount": (9, lambda x: hour_of(title=[0, x])),
     "a pooling amount": (9, lambda x: hour_of(pooling=(x, 0))),
-    "an entry of a GasDay": (9, lambda x: idle_hour(GasDay(2), 0, 1, entry=[0, x])),
-    "a pooling amount of a file": (9, lambda x: GasDay(1).settle_file(HourFile(1, 0, [0], [0], [0], [x]), NONE, **PRICES)),
-    "hour of a file": (6, lambda x: GasDay(1).settle_file(HourFile(x, 0, [0], [0], [0], [0]), NONE, **PRICES)),
+    "an entry of a GasDay": (9, lambda x: idle_hour(GasDay(2, 24), 0, 1, entry=[0, x])),
+    "a pooling amount of a file": (9, lambda x: GasDay(1, 24).settle_file(HourFile(1, 0, [0], [0], [0], [x]), NONE, **PRICES)),
+    "hour of a file": (6, lambda x: GasDay(1, 24).settle_file(HourFile(x, 0, [0], [0], [0], [0]), NONE, **PRICES)),
     "closing's zone": (4, lambda x: closing_of(zone=x)),
     "closing's excess price": (8, lambda x: closing_of(prices={"excess_price": x, "shortfall_price": 0})),
     "closing's shortfall price": (8, lambda x: closing_of(prices={"excess_price": 0, "shortfall_price": x})),
-    "closing's record": (2, lambda x: closing_of(Day(x, ZoneDay(24)))),
+    "closing's record": (2, lambda x: closing_of(Day(x, 24, ZoneDay(24)))),
+    "length of a closing's record": (2, lambda x: closing_of(Day(2, x, ZoneDay(0)))),
     "closing's table": (7, lambda x: closing_of(table=[x] + 255 * [0])),
-    "zone of a GasDay's closing": (4, lambda x: GasDay(2).close_zone(x, **PRICES)),
-    "zone of positions": (4, lambda x: GasDay(2).positions(x)),
+    "zone of a GasDay's closing": (4, lambda x: GasDay(2, 24).close_zone(x, **PRICES)),
+    "zone of positions": (4, lambda x: GasDay(2, 24).positions(x)),
     "written hour": (19, lambda x: written(hour=x)),
     "written zone": (18, lambda x: written(zone=x)),
     "written entry": (19, lambda x: written(entry=[0, x])),
     "written exit": (19, lambda x: written(exit=[x, 0])),
     "written title amount": (19, lambda x: written(title=(0, x))),
     "written pooling amount": (19, lambda x: written(pooling=[x, 0])),
-    "resumed record": (0, lambda x: GasDay.resume(State(Day(x), 256 * [0]))),
-    "resumed table": (0, lambda x: GasDay.resume(State(Day(2), 255 * [0] + [x]))),
+    "resumed record": (0, lambda x: GasDay.resume(State(Day(x, 24), 256 * [0]))),
+    "resumed length": (0, lambda x: GasDay.resume(State(Day(2, x), 256 * [0]))),
+    "resumed table": (0, lambda x: GasDay.resume(State(Day(2, 24), 255 * [0] + [x]))),
 }
 
 
@@ -103,7 +108,9 @@ class SingleNumbers(unittest.TestCase):
     def test_the_place_is_named(self):
         for call, words in (
             (lambda: hour_of(exit=[0, 1.0]), r"^exit\[1\] is to be an int, not float$"),
-            (lambda: hour_of(Day(2, ZoneDay(), ZoneDay(0, None))), "^day.l.closed is to be an int, not NoneType$"),
+            (lambda: hour_of(Day(2, 24, ZoneDay(), ZoneDay(0, None))), "^day.l.closed is to be an int, not NoneType$"),
+            (lambda: hour_of(Day(2, None)), "^day.length is to be an int, not NoneType$"),
+            (lambda: gas_day.open_day(2, 24.0), "^length is to be an int, not float$"),
             (lambda: hour_of(title=None), "^title is to be a list of ints, not NoneType$"),
             (lambda: hour_of(thresholds=(0, 0)), "^thresholds is to be a Thresholds, not tuple$"),
         ):
@@ -141,7 +148,7 @@ class Lists(unittest.TestCase):
                 with self.subTest(written=kind, given=given), self.assertRaises(TypeError):
                     written(**{kind: given})
             with self.subTest(given=given), self.assertRaises(TypeError):
-                GasDay.resume(State(Day(2), given))
+                GasDay.resume(State(Day(2, 24), given))
 
     def test_arrays_of_floats_and_of_large_numbers(self):
         with self.assertRaises(TypeError):
@@ -202,10 +209,10 @@ class OtherTypes(unittest.TestCase):
             with self.assertRaises(TypeError):
                 GasDay.resume(State(wrong, 256 * [0]))
             with self.assertRaises(TypeError):
-                GasDay(2).settle_file(wrong, NONE, **PRICES)
-        for wrong in (None, 0, (0, 0), Day(2)):
+                GasDay(2, 24).settle_file(wrong, NONE, **PRICES)
+        for wrong in (None, 0, (0, 0), Day(2, 24)):
             with self.assertRaises(TypeError):
-                hour_of(Day(2, wrong))
+                hour_of(Day(2, 24, wrong))
             with self.assertRaises(TypeError):
                 hour_of(thresholds=wrong)
 
@@ -221,7 +228,7 @@ class OtherTypes(unittest.TestCase):
 
     def test_amounts_go_by_name(self):
         with self.assertRaises(TypeError):
-            GasDay(1).settle_hour(Zone.H, 1, NONE, 0, 0, [0], [0], [0], [0])
+            GasDay(1, 24).settle_hour(Zone.H, 1, NONE, 0, 0, [0], [0], [0], [0])
         with self.assertRaises(TypeError):
             gas_day.write_hour_file(1, Zone.H, [0], [0], [0], [0])
 

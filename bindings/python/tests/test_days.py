@@ -18,7 +18,7 @@ class CaseA(unittest.TestCase):
         self.assertEqual(done.outcome, Outcome(Side.EXCESS, 5_000_000, [0, 1]))
         self.assertEqual(done.quantity, [3_333_333, 1_666_667, 0])
         self.assertEqual(done.money, [66_666_660_000, 33_333_340_000, 0])
-        self.assertEqual(done.day, Day(3, ZoneDay(1, False), ZoneDay(0, False)))
+        self.assertEqual(done.day, Day(3, 24, ZoneDay(1, False), ZoneDay(0, False)))
         self.assertEqual(done.table, [16_666_667, 8_333_333, -3_000_000] + 253 * [0])
         self.assertEqual((day.record, day.state, day.positions(Zone.H)), (done.day, State(done.day, done.table), done.table[:3]))
 
@@ -35,13 +35,13 @@ class CaseA(unittest.TestCase):
         file = gas_day.read_hour_file(FILE_A)
         self.assertEqual(file, HourFile(1, Zone.H, ENTRY, EXIT, [0, 0, 0], [0, 0, 0]))
         self.assertEqual(gas_day.read_hour_file(memoryview(FILE_A)), gas_day.read_hour_file(bytearray(FILE_A)))
-        day = GasDay(file.users)
+        day = GasDay(file.users, 24)
         self.check(day, day.settle_file(file, gas_day.default_thresholds(1, file.zone), **PRICES))
 
     def test_by_its_file_in_mwh(self):
         file = gas_day.read_hour_file(FILE_A_IN_MWH)
         self.assertEqual(file, gas_day.read_hour_file(FILE_A))
-        day = GasDay(file.users)
+        day = GasDay(file.users, 24)
         self.check(day, day.settle_file(file, gas_day.default_thresholds(1, file.zone), **PRICES))
 
     def test_by_a_file_of_both_units(self):
@@ -54,7 +54,7 @@ class CaseA(unittest.TestCase):
     def test_by_a_file_with_every_amount(self):
         file = gas_day.read_hour_file(HEADER + b"1,L,0,100,-10,5,2\r\n1,L,1,0,0,0,-2")
         self.assertEqual(file, HourFile(1, Zone.L, [100, 0], [-10, 0], [5, 0], [2, -2]))
-        day = GasDay(2)
+        day = GasDay(2, 24)
         self.assertEqual(day.settle_file(file, Thresholds(90, 0), excess_price=3, shortfall_price=0).money, [15, 0])
         self.assertEqual((day.positions(Zone.H), day.positions(Zone.L)), ([0, 0], [92, -2]))
         other = HourFile(2, Zone.L, [0, 0], [0, 0], [1, 1], [-1, 1])
@@ -62,13 +62,13 @@ class CaseA(unittest.TestCase):
         self.assertEqual(day.positions(Zone.L), [92, 0])
 
     def test_by_the_functions(self):
-        opened = gas_day.open_day(3)
-        self.assertEqual(opened, State(Day(3, ZoneDay(0, False), ZoneDay(0, False)), 256 * [0]))
+        opened = gas_day.open_day(3, 24)
+        self.assertEqual(opened, State(Day(3, 24, ZoneDay(0, False), ZoneDay(0, False)), 256 * [0]))
         _, hour, given = case_a()
         lists = {name: list(value) for name, value in given.items() if isinstance(value, list)}
         done = gas_day.settle_hour(opened.day, opened.table, *hour, **given)
         self.check(GasDay.resume(State(done.day, done.table)), done)
-        self.assertEqual(opened, gas_day.open_day(3))
+        self.assertEqual(opened, gas_day.open_day(3, 24))
         self.assertEqual({name: given[name] for name in lists}, lists)
 
     def test_shown(self):
@@ -76,7 +76,7 @@ class CaseA(unittest.TestCase):
         done = day.settle_hour(*hour, **given)
         self.assertEqual(
             repr(done),
-            "HourDone(day=Day(users=3, h=ZoneDay(hours=1, closed=False), l=ZoneDay(hours=0, closed=False)), "
+            "HourDone(day=Day(users=3, length=24, h=ZoneDay(hours=1, closed=False), l=ZoneDay(hours=0, closed=False)), "
             "outcome=Outcome(side=<Side.EXCESS: 1>, total=5000000, causers=[0, 1]), "
             "quantity=[3333333, 1666667, 0], money=[66666660000, 33333340000, 0])",
         )
@@ -136,9 +136,14 @@ class WholeDay(unittest.TestCase):
         self.assertEqual(day.state.table[128:], day.positions(Zone.L) + 61 * [0])
 
     def test_both_zones_to_their_closing(self):
-        day = GasDay(67)
+        for length in (23, 24, 25):
+            with self.subTest(length=length):
+                self.to_the_closing(length)
+
+    def to_the_closing(self, length):
+        day = GasDay(67, length)
         self.first_hours(day)
-        for hour in range(2, 25):
+        for hour in range(2, length + 1):
             for zone in Zone:
                 with self.assertRaises(Refusal) as refused:
                     day.close_zone(zone, **PRICES)
@@ -146,7 +151,10 @@ class WholeDay(unittest.TestCase):
                 done = idle_hour(day, zone, hour)
                 self.assertEqual(done.outcome, Outcome(Side.WITHIN, 0, []))
                 self.assertEqual(done.quantity, 67 * [0])
-        self.assertEqual(day.record, Day(67, ZoneDay(24, False), ZoneDay(24, False)))
+        self.assertEqual(day.record, Day(67, length, ZoneDay(length, False), ZoneDay(length, False)))
+        with self.assertRaises(Refusal) as refused:
+            idle_hour(day, Zone.H, length + 1)
+        self.assertEqual(refused.exception.number, 6)
         done = day.close_zone(Zone.H, excess_price=30, shortfall_price=35)
         self.assertEqual((done.sold, done.bought), (31, 4))
         self.assertEqual([done.quantity[g] for g in (0, 1, 2, 64, 65, 66)], [0, 7, -4, 8, 8, 8])
@@ -156,11 +164,11 @@ class WholeDay(unittest.TestCase):
         done = day.close_zone(Zone.L, excess_price=30, shortfall_price=-35)
         self.assertEqual((done.sold, done.bought), (0, 6))
         self.assertEqual((done.money[0], done.money[66]), (140, 70))
-        self.assertEqual(day.state, State(Day(67, ZoneDay(24, True), ZoneDay(24, True)), 256 * [0]))
+        self.assertEqual(day.state, State(Day(67, length, ZoneDay(length, True), ZoneDay(length, True)), 256 * [0]))
         self.assertEqual(done.table, day.state.table)
 
     def test_resumed_it_goes_on(self):
-        day = GasDay(67)
+        day = GasDay(67, 24)
         self.first_hours(day)
         state = day.state
         copies = [GasDay.resume(state), GasDay.resume(State(state.day, array("q", state.table))), copy.copy(day), copy.deepcopy(day), pickle.loads(pickle.dumps(day))]
@@ -172,7 +180,7 @@ class WholeDay(unittest.TestCase):
             self.assertEqual(idle_hour(each, Zone.L, 2, Thresholds(0, 0), **title), done)
 
     def test_what_is_given_and_answered_is_the_callers_own(self):
-        day = GasDay(3)
+        day = GasDay(3, 24)
         done = idle_hour(day, Zone.H, 1, entry=[5, 0, 0])
         given = array("q", done.table)
         other = GasDay.resume(State(done.day, given))
@@ -183,7 +191,7 @@ class WholeDay(unittest.TestCase):
             self.assertEqual(each.positions(Zone.H), [5, 0, 0])
 
     def test_an_odd_record_stays_odd(self):
-        for odd in (Day(3, ZoneDay(24, 2)), Day(3, ZoneDay(25)), Day(129), Day(-1)):
+        for odd in (Day(3, 24, ZoneDay(24, 2)), Day(3, 24, ZoneDay(25)), Day(3, 22), Day(3, 26), Day(129, 24), Day(-1, 24)):
             day = GasDay.resume(State(odd, list(range(256))))
             with self.assertRaises(Refusal) as refused:
                 idle_hour(day, Zone.L, 1)
@@ -191,6 +199,12 @@ class WholeDay(unittest.TestCase):
             self.assertEqual(day.state, State(odd, list(range(256))))
             users = min(max(odd.users, 0), 128)
             self.assertEqual((day.positions(Zone.H), day.positions(Zone.L)), (list(range(users)), list(range(128, 128 + users))))
+
+    def test_a_record_of_an_older_module_has_no_length(self):
+        old = Day.__new__(Day)
+        old.__dict__.update(users=1, h=ZoneDay(1, False), l=ZoneDay(0, False))  # as pickle would
+        for call in (lambda: GasDay.resume(State(old, 256 * [0])), lambda: gas_day.close_zone(old, 256 * [0], Zone.H, **PRICES)):
+            self.assertRaisesRegex(AttributeError, "'Day' object has no attribute 'length'", call)
 
     def test_a_resumed_record_is_of_plain_numbers(self):
         class Changes:
@@ -200,9 +214,9 @@ class WholeDay(unittest.TestCase):
                 return self.number
 
         users = Changes()
-        day = GasDay.resume(State(Day(users), 256 * [0]))
+        day = GasDay.resume(State(Day(users, 24), 256 * [0]))
         users.number = 3
-        self.assertEqual((day.record, day.positions(Zone.H)), (Day(2), [0, 0]))
+        self.assertEqual((day.record, day.positions(Zone.H)), (Day(2, 24), [0, 0]))
 
 
 class Turns(unittest.TestCase):
@@ -243,18 +257,18 @@ class Turns(unittest.TestCase):
         return numbers
 
     def test_of_two_hours_one_is_refused(self):
-        day = GasDay(1)
+        day = GasDay(1, 24)
         numbers = self.second_while_the_first_is_under_way(day, "gas_day_settle_hour", lambda: idle_hour(day, Zone.H, 1, entry=[5]))
         self.assertEqual((numbers, day.positions(Zone.H)), ([6], [5]))
 
     def test_of_two_closings_one_is_refused(self):
-        day = GasDay.resume(State(Day(1, ZoneDay(24)), [5] + 255 * [0]))
+        day = GasDay.resume(State(Day(1, 24, ZoneDay(24)), [5] + 255 * [0]))
         numbers = self.second_while_the_first_is_under_way(day, "gas_day_close_zone", lambda: day.close_zone(Zone.H, **PRICES))
         self.assertEqual((numbers, day.record.h), ([5], ZoneDay(24, True)))
 
     def test_an_argument_that_uses_the_day(self):
         """The hour that it settles comes first, and then its own is refused: nothing waits for itself."""
-        day = GasDay(1)
+        day = GasDay(1, 24)
 
         class Settles:
             def __index__(self):

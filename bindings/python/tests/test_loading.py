@@ -82,9 +82,10 @@ class Loading(unittest.TestCase):
         self.assertRegex(done.stderr, r"\Agas_day: the gas_day library cannot be loaded: .*\n\Z")
 
     def test_another_version(self):
-        library = self.built("later.so", f"unsigned long gas_day_version(void) {{ return {VERSION + 1}; }}")
-        words = f"ImportError: {library} is of version {VERSION + 1}, and this module is written for version {VERSION}"
-        self.assertEqual(imported(MODULE, GAS_DAY_LIBRARY=library), words)
+        for version in (VERSION - 1, VERSION + 1):
+            library = self.built(f"of_version_{version}.so", f"unsigned long gas_day_version(void) {{ return {version}; }}")
+            words = f"ImportError: {library} is of version {version}, and this module is written for version {VERSION}"
+            self.assertEqual(imported(MODULE, GAS_DAY_LIBRARY=library), words)
 
     def test_another_library(self):
         library = self.built("other.so", "int other;")

@@ -44,7 +44,7 @@ class EveryCause(unittest.TestCase):
         self.assertEqual(refused.exception.number, 20)
 
     def test_words_and_names(self):
-        self.assertEqual([int(cause) for cause in Cause], list(range(1, 21)))
+        self.assertEqual([int(cause) for cause in Cause], list(range(1, 22)))
         self.assertEqual(Cause.POOLING.words, "pooling amounts do not add to zero")
         self.assertEqual(str(Refusal("close_zone", Cause.CLOSED)), "close_zone refused by cause 5: zone closed")
 

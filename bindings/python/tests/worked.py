@@ -23,15 +23,15 @@ def idle_hour(day, zone, hour, thresholds=WIDE, **given):
 
 def case_a():
     """The day of case A before its hour, and what its hour is given."""
-    return GasDay(3), (Zone.H, 1, default_thresholds(1, Zone.H)), {**PRICES, **amounts(3, entry=ENTRY, exit=EXIT)}
+    return GasDay(3, 24), (Zone.H, 1, default_thresholds(1, Zone.H)), {**PRICES, **amounts(3, entry=ENTRY, exit=EXIT)}
 
 
-def hour_of(record=Day(2), table=None, zone=Zone.H, hour=1, thresholds=NONE, prices=None, **given):
+def hour_of(record=Day(2, 24), table=None, zone=Zone.H, hour=1, thresholds=NONE, prices=None, **given):
     table = [0] * 256 if table is None else table
     return settle_hour(record, table, zone, hour, thresholds, **(prices or PRICES), **amounts(2, **given))
 
 
-def closing_of(record=Day(2, ZoneDay(24)), table=None, zone=Zone.H, prices=None):
+def closing_of(record=Day(2, 24, ZoneDay(24)), table=None, zone=Zone.H, prices=None):
     table = [0] * 256 if table is None else table
     return close_zone(record, table, zone, **(prices or PRICES))
 
@@ -49,16 +49,23 @@ PRICE_TOO_HIGH = {"excess_price": 10_000_001, "shortfall_price": 0}
 
 # Number, name of the call, and the call.
 REFUSED = [
-    (1, "open_day", lambda: open_day(0)),
-    (1, "open_day", lambda: open_day(129)),
-    (1, "open_day", lambda: GasDay(-(2**63))),
+    (1, "open_day", lambda: open_day(0, 24)),
+    (1, "open_day", lambda: open_day(129, 24)),
+    (1, "open_day", lambda: GasDay(-(2**63), 22)),
+    (21, "open_day", lambda: open_day(2, 22)),
+    (21, "open_day", lambda: open_day(128, 26)),
+    (21, "open_day", lambda: GasDay(1, -24)),
     (4, "default_thresholds", lambda: default_thresholds(1, 2)),
     (8, "default_thresholds", lambda: default_thresholds(13, 0)),
     (8, "default_thresholds", lambda: default_thresholds(0, Zone.L)),
-    (2, "settle_hour", lambda: hour_of(Day(129))),
-    (2, "settle_hour", lambda: hour_of(Day(2, ZoneDay(25)))),
-    (2, "settle_hour", lambda: hour_of(Day(2, ZoneDay(), ZoneDay(23, True)))),
-    (2, "settle_hour", lambda: hour_of(Day(2, ZoneDay(24, 2)), zone=Zone.L)),
+    (2, "settle_hour", lambda: hour_of(Day(129, 24))),
+    (2, "settle_hour", lambda: hour_of(Day(2, 22))),
+    (2, "settle_hour", lambda: hour_of(Day(2, 26), table=[])),
+    (2, "settle_hour", lambda: hour_of(Day(2, 24, ZoneDay(25)))),
+    (2, "settle_hour", lambda: hour_of(Day(2, 23, ZoneDay(), ZoneDay(24)))),
+    (2, "settle_hour", lambda: hour_of(Day(2, 25, ZoneDay(), ZoneDay(24, True)))),
+    (2, "settle_hour", lambda: hour_of(Day(2, 24, ZoneDay(), ZoneDay(23, True)))),
+    (2, "settle_hour", lambda: hour_of(Day(2, 24, ZoneDay(24, 2)), zone=Zone.L)),
     (3, "settle_hour", lambda: hour_of(table=[0] * 255)),
     (3, "settle_hour", lambda: hour_of(table=[])),
     (3, "settle_hour", lambda: hour_of(entry=[0, 0, 0])),
@@ -67,12 +74,14 @@ REFUSED = [
     (3, "settle_hour", lambda: hour_of(pooling=[0] * 128)),
     (4, "settle_hour", lambda: hour_of(zone=2)),
     (4, "settle_hour", lambda: hour_of(zone=-1)),
-    (5, "settle_hour", lambda: hour_of(Day(2, ZoneDay(24, True)), hour=25)),
+    (5, "settle_hour", lambda: hour_of(Day(2, 24, ZoneDay(24, True)), hour=25)),
     (6, "settle_hour", lambda: hour_of(hour=2)),
-    (6, "settle_hour", lambda: hour_of(Day(2, ZoneDay(24)), hour=25)),
+    (6, "settle_hour", lambda: hour_of(Day(2, 24, ZoneDay(24)), hour=25)),
+    (6, "settle_hour", lambda: hour_of(Day(2, 23, ZoneDay(23)), hour=24)),
+    (6, "settle_hour", lambda: hour_of(Day(2, 25, ZoneDay(25)), hour=26)),
     (7, "settle_hour", lambda: hour_of(table=table_with(0, 1))),
-    (7, "settle_hour", lambda: hour_of(Day(2, ZoneDay(1)), table_with(2, -1), hour=2)),
-    (7, "settle_hour", lambda: hour_of(Day(2, ZoneDay(1)), table_with(1, 100_000_001), hour=2)),
+    (7, "settle_hour", lambda: hour_of(Day(2, 24, ZoneDay(1)), table_with(2, -1), hour=2)),
+    (7, "settle_hour", lambda: hour_of(Day(2, 24, ZoneDay(1)), table_with(1, 100_000_001), hour=2)),
     (8, "settle_hour", lambda: hour_of(thresholds=Thresholds(1_000_000_001, 0))),
     (8, "settle_hour", lambda: hour_of(thresholds=Thresholds(0, 1))),
     (8, "settle_hour", lambda: hour_of(prices=PRICE_TOO_HIGH)),
@@ -82,12 +91,15 @@ REFUSED = [
     (9, "settle_hour", lambda: hour_of(pooling=[-100_000_001, 100_000_001])),
     (10, "settle_hour", lambda: hour_of(pooling=[1, 0])),
     (11, "settle_hour", lambda: hour_of(entry=[50_000_000, 0], title=[50_000_000, 0], pooling=[1, -1])),
-    (2, "close_zone", lambda: closing_of(Day(0, ZoneDay(24)))),
-    (2, "close_zone", lambda: closing_of(Day(2**63 - 1, ZoneDay(24)))),
+    (2, "close_zone", lambda: closing_of(Day(0, 24, ZoneDay(24)))),
+    (2, "close_zone", lambda: closing_of(Day(2**63 - 1, 24, ZoneDay(24)))),
     (3, "close_zone", lambda: closing_of(table=[0] * 257)),
     (4, "close_zone", lambda: closing_of(zone=2)),
-    (5, "close_zone", lambda: closing_of(Day(2, ZoneDay(24, True)))),
+    (5, "close_zone", lambda: closing_of(Day(2, 24, ZoneDay(24, True)))),
+    (2, "close_zone", lambda: closing_of(Day(2, 22, ZoneDay(22)))),
+    (2, "close_zone", lambda: closing_of(Day(2, 23, ZoneDay(24)))),
     (6, "close_zone", lambda: closing_of(zone=Zone.L)),
+    (6, "close_zone", lambda: closing_of(Day(2, 25, ZoneDay(24)))),
     (7, "close_zone", lambda: closing_of(table=table_with(128, 1))),
     (8, "close_zone", lambda: closing_of(prices=PRICE_TOO_HIGH)),
     (13, "read_hour_file", lambda: read_hour_file(b"")),

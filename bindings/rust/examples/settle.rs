@@ -1,7 +1,7 @@
 //! Reads an hour's file from standard input, settles its hour with January's default thresholds, and prints each user's place, position before, quantity, money and
 //! position after. A refusal prints its cause and ends with status 1.
 
-use gas_day::limits::{FILE_PLACES, TABLE_PLACES, ZONE_PLACES};
+use gas_day::limits::{FILE_PLACES, LENGTH_USUAL, TABLE_PLACES, ZONE_PLACES};
 use gas_day::{Amounts, Cause, FileLists, HourTerms, Outputs, Thresholds};
 use std::io::Read;
 use std::process::exit;
@@ -14,7 +14,7 @@ fn settle(bytes: &[u8]) -> Result<Vec<String>, Cause> {
     let users = file.lines;
 
     let mut table = [0; TABLE_PLACES];
-    let mut day = gas_day::open(users as i64, &mut table)?;
+    let mut day = gas_day::open(users as i64, LENGTH_USUAL, &mut table)?;
     let Thresholds { upper, lower } = gas_day::default_thresholds(1, file.zone)?;
     let terms = HourTerms { zone: file.zone, hour: file.hour, upper, lower, excess_price: 20_000, shortfall_price: 25_000 };
     let amounts = Amounts { entry: &entries[..users], exit: &exits[..users], title: &titles[..users], pooling: &poolings[..users] };

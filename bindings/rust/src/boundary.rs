@@ -50,7 +50,7 @@ pub struct Written {
 
 extern "C" {
     pub fn gas_day_version() -> u64;
-    pub fn gas_day_open(users: i64, table: *mut i64, table_places: usize) -> Opened;
+    pub fn gas_day_open(users: i64, length: i64, table: *mut i64, table_places: usize) -> Opened;
     pub fn gas_day_default_thresholds(month: i64, zone: i64) -> Thresholds;
     pub fn gas_day_settle_hour(
         day: Day,

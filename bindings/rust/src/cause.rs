@@ -1,9 +1,10 @@
 use std::error::Error;
 use std::fmt;
 
-/// Why a call was turned away: the first cause that applies, in the order of their numbers.
+/// Why a call was turned away: the first cause that applies, in the order of their numbers, but for 21, which comes after 1 and before 3.
 ///
-/// Its number is `cause as u64` or [`Cause::number`], its words are those of the requirements, and it prints as both.
+/// Its number is `cause as u64` or [`Cause::number`], its words are those of the requirements (of 2, 6 and 21 made of them, since the day has a length), and it prints as
+/// both.
 ///
 /// ```
 /// use gas_day::Cause;
@@ -18,7 +19,7 @@ use std::fmt;
 pub enum Cause {
     /// Opening: user count not 1 to 128.
     Users = 1,
-    /// Record's user count not 1 to 128, hours not 0 to 24, or a zone closed with fewer than 24; or `closed` not 0 or 1.
+    /// Record's user count not 1 to 128, length not 23, 24 or 25, hours not 0 to the length, or a zone closed with fewer than the length; or `closed` not 0 or 1.
     Record = 2,
     /// Table not of 256 places, or a list or the scratch not of exactly the user count.
     Length = 3,
@@ -26,7 +27,7 @@ pub enum Cause {
     Zone = 4,
     /// Zone closed.
     Closed = 5,
-    /// Hour is not hours done plus 1, or above 24; at closing, hours done below 24.
+    /// Hour is not hours done plus 1, or above the day's length; at closing, hours done below it.
     Hour = 6,
     /// Table holds a position outside its range, a non-zero place at or beyond the user count in either zone, or a non-zero place in a zone that is closed or has
     /// no hours done.
@@ -57,6 +58,8 @@ pub enum Cause {
     WriteNumber = 19,
     /// The lent bytes are too few.
     WriteRoom = 20,
+    /// Opening: length not 23, 24 or 25.
+    DayLength = 21,
 }
 
 impl Cause {
@@ -82,6 +85,7 @@ impl Cause {
         Cause::WriteCount,
         Cause::WriteNumber,
         Cause::WriteRoom,
+        Cause::DayLength,
     ];
 
     /// The cause's number in the requirements.
@@ -104,11 +108,11 @@ impl Cause {
     pub const fn words(self) -> &'static str {
         match self {
             Cause::Users => "opening: user count not 1 to 128",
-            Cause::Record => "record's user count not 1 to 128, hours not 0 to 24, or a zone closed with fewer than 24",
+            Cause::Record => "record's user count not 1 to 128, length not 23, 24 or 25, hours not 0 to the length, or a zone closed with fewer than the length",
             Cause::Length => "table not of 256 places, or a list or the scratch not of exactly the user count",
             Cause::Zone => "zone not 0 or 1",
             Cause::Closed => "zone closed",
-            Cause::Hour => "hour is not hours done plus 1, or above 24; at closing, hours done below 24",
+            Cause::Hour => "hour is not hours done plus 1, or above the day's length; at closing, hours done below it",
             Cause::Table => concat!(
                 "table holds a position outside its range, a non-zero place at or beyond the user count in either zone, ",
                 "or a non-zero place in a zone that is closed or has no hours done"
@@ -126,6 +130,7 @@ impl Cause {
             Cause::WriteCount => "the count is not 1 to 128, the zone not 0 or 1, or a list is not of the count's length",
             Cause::WriteNumber => "the hour or an amount has more than nine digits or the hour is negative",
             Cause::WriteRoom => "the lent bytes are too few",
+            Cause::DayLength => "opening: length not 23, 24 or 25",
         }
     }
 }

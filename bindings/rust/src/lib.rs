@@ -12,7 +12,7 @@
 //!
 //! # fn main() -> Result<(), Cause> {
 //! let mut table = [0; limits::TABLE_PLACES];
-//! let mut day = open(3, &mut table)?;
+//! let mut day = open(3, 24, &mut table)?;
 //! let Thresholds { upper, lower } = default_thresholds(1, 0)?;
 //! let terms = HourTerms { zone: 0, hour: 1, upper, lower, excess_price: 20_000, shortfall_price: 25_000 };
 //! let amounts = Amounts {
@@ -47,13 +47,13 @@ use std::sync::atomic::{AtomicBool, Ordering};
 
 /// The version of the interface that this crate is written for. A library of another version has other structs or other calls, and is not called. A call that is added
 /// leaves the version as it is; with an older library, which lacks it, this crate is not built.
-pub const VERSION: u64 = 1;
+pub const VERSION: u64 = 2;
 
 /// The day record of one zone.
 #[repr(C)]
 #[derive(Clone, Copy, PartialEq, Eq, Hash, Debug, Default)]
 pub struct ZoneDay {
-    /// The hours done, 0 to 24.
+    /// The hours done, 0 to the day's length.
     pub hours: i64,
     /// Whether the zone is closed: 0 or 1. A record with another number is refused by [`Cause::Record`].
     pub closed: i64,
@@ -65,6 +65,8 @@ pub struct ZoneDay {
 pub struct Day {
     /// The users of the day, 1 to 128.
     pub users: i64,
+    /// The hours that the day has: 23, 24 or 25.
+    pub length: i64,
     /// The H zone, which is zone 0.
     pub h: ZoneDay,
     /// The L zone, which is zone 1.
@@ -252,20 +254,22 @@ pub fn version() -> u64 {
     unsafe { boundary::gas_day_version() }
 }
 
-/// Opens a Gas Day: sets all 256 places of the table to zero and answers the record. Causes 1 and 3.
+/// Opens a Gas Day for so many users, of 23, 24 or 25 hours: sets all 256 places of the table to zero and answers the record, which keeps the length. Causes 1, 21 and 3.
 ///
 /// ```
 /// use gas_day::*;
 /// let mut table = [7; limits::TABLE_PLACES];
-/// assert_eq!(open(129, &mut table), Err(Cause::Users));
+/// assert_eq!(open(129, 24, &mut table), Err(Cause::Users));
+/// assert_eq!(open(128, 26, &mut table), Err(Cause::DayLength));
 /// assert_eq!(table, [7; limits::TABLE_PLACES]);
-/// assert_eq!(open(128, &mut table).unwrap().users, 128);
+/// let day = open(128, 25, &mut table).unwrap();
+/// assert_eq!((day.users, day.length), (128, 25));
 /// assert_eq!(table, [0; limits::TABLE_PLACES]);
 /// ```
-pub fn open(users: i64, table: &mut [i64]) -> Result<Day, Cause> {
+pub fn open(users: i64, length: i64, table: &mut [i64]) -> Result<Day, Cause> {
     look_at_version();
     // SAFETY: above.
-    let opened = unsafe { boundary::gas_day_open(users, table.as_mut_ptr(), table.len()) };
+    let opened = unsafe { boundary::gas_day_open(users, length, table.as_mut_ptr(), table.len()) };
     accepted(opened.cause)?;
     Ok(opened.day)
 }
@@ -290,7 +294,7 @@ pub fn default_thresholds(month: i64, zone: i64) -> Result<Thresholds, Cause> {
 /// ```
 /// use gas_day::*;
 /// let mut table = [0; limits::TABLE_PLACES];
-/// let mut day = open(1, &mut table).unwrap();
+/// let mut day = open(1, 24, &mut table).unwrap();
 /// let terms = HourTerms { zone: 1, hour: 2, upper: 0, lower: 0, excess_price: 20_000, shortfall_price: 25_000 };
 /// let amounts = Amounts { entry: &[0], exit: &[-5], title: &[0], pooling: &[0] };
 /// let (mut quantity, mut money, mut scratch) = ([0], [0], [0]);
@@ -353,14 +357,14 @@ fn outcome(hour: &boundary::Hour) -> Outcome {
     Outcome::Settled { side, total: hour.total, causers: Causers { first: hour.first, second: hour.second, number: hour.number } }
 }
 
-/// Closes a zone after its 24 hours: fills quantity and money with each user's whole position and its price, sets the zone's places to zero and marks the zone closed in
+/// Closes a zone after all hours of its day: fills quantity and money with each user's whole position and its price, sets the zone's places to zero and marks the zone closed in
 /// the record. Causes 2 to 8; refused, everything lent is as it was, the record too.
 ///
 /// ```
 /// use gas_day::*;
 /// let mut table = [0; limits::TABLE_PLACES];
 /// table[..2].copy_from_slice(&[2, -2]);
-/// let mut day = Day { users: 2, h: ZoneDay { hours: 24, closed: 0 }, l: ZoneDay::default() };
+/// let mut day = Day { users: 2, length: 24, h: ZoneDay { hours: 24, closed: 0 }, l: ZoneDay::default() };
 /// let (mut quantity, mut money) = ([0; 2], [0; 2]);
 /// let outputs = Outputs { quantity: &mut quantity, money: &mut money };
 /// let terms = ClosingTerms { zone: 0, excess_price: 20_000, shortfall_price: 25_000 };

@@ -10,8 +10,12 @@ pub const FILE_PLACES: usize = 128;
 pub const USERS_LEAST: i64 = 1;
 /// Most users in a day.
 pub const USERS_MOST: i64 = 128;
-/// Hours of a day.
-pub const HOURS: i64 = 24;
+/// Fewest hours of a day: on one of the two days of a clock change.
+pub const LENGTH_LEAST: i64 = 23;
+/// Hours of a day that is no day of a clock change.
+pub const LENGTH_USUAL: i64 = 24;
+/// Most hours of a day: on the other day of a clock change.
+pub const LENGTH_MOST: i64 = 25;
 /// Entry (EEA): 0 to this.
 pub const ENTRY_MOST: i64 = 50_000_000;
 /// Exit (XEA): this to 0.

@@ -20,7 +20,7 @@ fn fit() -> Call {
     let mut table = vec![0; TABLE_PLACES];
     table[..2].copy_from_slice(&[5, -2]);
     Call {
-        day: Day { users: 2, h: ZoneDay { hours: 1, closed: 0 }, l: ZoneDay::default() },
+        day: Day { users: 2, length: 24, h: ZoneDay { hours: 1, closed: 0 }, l: ZoneDay::default() },
         table,
         terms: HourTerms { zone: 0, hour: 2, upper: 0, lower: 0, excess_price: 20, shortfall_price: 25 },
         amounts: [vec![1, 0], vec![0, -1], vec![0, 0], vec![3, -3]],
@@ -56,10 +56,15 @@ impl Call {
 type Spoilt = (Cause, fn(&mut Call));
 
 /// Of hours and of closings.
-const SHARED: [Spoilt; 21] = [
+const SHARED: [Spoilt; 26] = [
     (Cause::Record, |call| call.day.users = 0),
     (Cause::Record, |call| call.day.users = i64::MAX),
+    (Cause::Record, |call| call.day.length = 22),
+    (Cause::Record, |call| call.day.length = 26),
+    (Cause::Record, |call| call.day.length = i64::MIN),
     (Cause::Record, |call| call.day.h.hours = 25),
+    (Cause::Record, |call| (call.day.length, call.day.l.hours) = (23, 24)),
+    (Cause::Record, |call| (call.day.length, call.day.l) = (25, ZoneDay { hours: 24, closed: 1 })),
     (Cause::Record, |call| call.day.l.hours = -1),
     (Cause::Record, |call| call.day.l.closed = 1),
     (Cause::Record, |call| call.day.h.closed = 2),
@@ -81,7 +86,7 @@ const SHARED: [Spoilt; 21] = [
 ];
 
 /// Of hours alone.
-const HOURS: [Spoilt; 16] = [
+const HOURS: [Spoilt; 18] = [
     (Cause::Length, |call| call.amounts[0].push(0)),
     (Cause::Length, |call| call.amounts[1].clear()),
     (Cause::Length, |call| call.amounts[2].truncate(1)),
@@ -90,6 +95,8 @@ const HOURS: [Spoilt; 16] = [
     (Cause::Hour, |call| call.terms.hour = 1),
     (Cause::Hour, |call| call.terms.hour = i64::MAX),
     (Cause::Hour, |call| (call.day.h.hours, call.terms.hour) = (24, 25)),
+    (Cause::Hour, |call| (call.day.length, call.day.h.hours, call.terms.hour) = (23, 23, 24)),
+    (Cause::Hour, |call| (call.day.length, call.day.h.hours, call.terms.hour) = (25, 25, 26)),
     (Cause::Terms, |call| call.terms.upper = limits::THRESHOLD_MOST + 1),
     (Cause::Terms, |call| call.terms.lower = 1),
     (Cause::Amount, |call| call.amounts[0][1] = limits::ENTRY_MOST + 1),
@@ -115,8 +122,8 @@ fn of_an_hour() {
 #[test]
 fn of_a_closing() {
     assert!(fit_closing().close().is_ok());
-    let early: Spoilt = (Cause::Hour, |call| call.day.h.hours = 23);
-    for (number, (cause, spoil)) in SHARED.iter().chain(&[early]).enumerate() {
+    let early: [Spoilt; 2] = [(Cause::Hour, |call| call.day.h.hours = 23), (Cause::Hour, |call| call.day.length = 25)];
+    for (number, (cause, spoil)) in SHARED.iter().chain(&early).enumerate() {
         let mut call = fit_closing();
         spoil(&mut call);
         let before = call.clone();
@@ -127,10 +134,19 @@ fn of_a_closing() {
 
 #[test]
 fn of_an_opening_and_of_thresholds() {
-    let openings = [(0, 256, Cause::Users), (129, 256, Cause::Users), (i64::MIN, 0, Cause::Users), (1, 255, Cause::Length), (128, 0, Cause::Length)];
-    for (users, places, cause) in openings {
+    let openings = [
+        (0, 24, 256, Cause::Users),
+        (129, 24, 256, Cause::Users),
+        (i64::MIN, 22, 0, Cause::Users),
+        (1, 22, 256, Cause::DayLength),
+        (128, 26, 256, Cause::DayLength),
+        (1, i64::MAX, 0, Cause::DayLength),
+        (1, 23, 255, Cause::Length),
+        (128, 25, 0, Cause::Length),
+    ];
+    for (users, length, places, cause) in openings {
         let mut table = vec![77; places];
-        assert_eq!(open(users, &mut table), Err(cause));
+        assert_eq!(open(users, length, &mut table), Err(cause));
         assert_eq!(table, vec![77; places]);
     }
     assert_eq!(default_thresholds(1, 2), Err(Cause::Zone));
@@ -238,13 +254,13 @@ fn of_a_writing() {
 
 #[test]
 fn by_number_and_words() {
-    assert_eq!(Cause::ALL.len(), 20);
+    assert_eq!(Cause::ALL.len(), 21);
     for (number, &cause) in (1..).zip(Cause::ALL) {
         assert_eq!((cause.number(), cause as u64), (number, number));
         assert_eq!(Cause::of(number), Some(cause));
         assert_eq!(cause.to_string(), format!("cause {number}: {}", cause.words()));
     }
-    for number in [0, 21, 257, 1 << 32 | 1, u64::MAX] {
+    for number in [0, 22, 257, 1 << 32 | 1, u64::MAX] {
         assert_eq!(Cause::of(number), None);
     }
     let error: Box<dyn std::error::Error> = Cause::Pooling.into();

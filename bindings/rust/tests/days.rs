@@ -28,7 +28,7 @@ fn case_a_by_its_file() {
     assert_eq!((&titles[..4], &poolings[..4]), (&[0, 0, 0, 77][..], &[0, 0, 0, 77][..]));
 
     let mut table = [77; TABLE_PLACES];
-    let mut day = open(3, &mut table).unwrap();
+    let mut day = open(3, 24, &mut table).unwrap();
     let terms = HourTerms { excess_price: 20_000, shortfall_price: 25_000, ..terms(file.zone, file.hour, default_thresholds(1, file.zone).unwrap()) };
     let amounts = Amounts { entry: &entries[..3], exit: &exits[..3], title: &titles[..3], pooling: &poolings[..3] };
     let (mut quantity, mut money, mut scratch) = ([77; 3], [77; 3], [77; 3]);
@@ -41,7 +41,7 @@ fn case_a_by_its_file() {
     assert_eq!(scratch, [0; 3]);
     assert_eq!(table[..3], [16_666_667, 8_333_333, -3_000_000]);
     assert_eq!(table[3..], [0; 253]);
-    assert_eq!(day, Day { users: 3, h: ZoneDay { hours: 1, closed: 0 }, l: ZoneDay::default() });
+    assert_eq!(day, Day { users: 3, length: 24, h: ZoneDay { hours: 1, closed: 0 }, l: ZoneDay::default() });
 }
 
 #[test]
@@ -143,18 +143,23 @@ impl Worked {
 
 #[test]
 fn both_zones_to_their_closing() {
+    [23, 24, 25].into_iter().for_each(worked_day);
+}
+
+fn worked_day(length: i64) {
     let mut table = [77; TABLE_PLACES];
-    let day = open(USERS as i64, &mut table).unwrap();
+    let day = open(USERS as i64, length, &mut table).unwrap();
     let mut worked = Worked { day, table, quantity: [77; USERS], money: [77; USERS] };
     worked.excess();
     worked.shortfall();
-    for hour in 2..=limits::HOURS {
+    for hour in 2..=length {
         for zone in [0, 1] {
             assert_eq!(worked.close(zone, 0, 0), Err(Cause::Hour));
             assert_eq!(worked.hour(terms(zone, hour, WIDE), [only([]); 4]), Ok(Outcome::Within));
             assert_eq!(worked.quantity, only([]));
         }
     }
+    assert_eq!(worked.hour(terms(0, length + 1, WIDE), [only([]); 4]), Err(Cause::Hour));
     assert_eq!(worked.close(0, 30, 35), Ok(Sums { sold: 31, bought: 4 }));
     assert_eq!(worked.quantity, only([(1, 7), (2, -4), (64, 8), (65, 8), (66, 8)]));
     assert_eq!(worked.money, only([(1, 210), (2, -140), (64, 240), (65, 240), (66, 240)]));
@@ -163,8 +168,8 @@ fn both_zones_to_their_closing() {
     assert_eq!(worked.close(1, 30, -35), Ok(Sums { sold: 0, bought: 6 }));
     assert_eq!(worked.money, only([(0, 140), (66, 70)]));
     assert_eq!(worked.table, [0; TABLE_PLACES]);
-    let closed = ZoneDay { hours: 24, closed: 1 };
-    assert_eq!(worked.day, Day { users: USERS as i64, h: closed, l: closed });
+    let closed = ZoneDay { hours: length, closed: 1 };
+    assert_eq!(worked.day, Day { users: USERS as i64, length, h: closed, l: closed });
 }
 
 #[test]
@@ -175,7 +180,7 @@ fn the_last_hour_of_the_most_users() {
     assert_eq!((entries, exits), ([50_000_000; 128], [0; 128]));
     assert_eq!((titles[127], poolings[127]), (127, -127));
 
-    let mut day = Day { users: 128, h: ZoneDay::default(), l: ZoneDay { hours: 23, closed: 0 } };
+    let mut day = Day { users: 128, length: limits::LENGTH_USUAL, h: ZoneDay::default(), l: ZoneDay { hours: 23, closed: 0 } };
     let (mut table, mut quantity, mut money) = ([0; TABLE_PLACES], [77; 128], [77; 128]);
     let amounts = Amounts { entry: &entries, exit: &exits, title: &[0; 128], pooling: &[0; 128] };
     let outputs = Outputs { quantity: &mut quantity, money: &mut money };

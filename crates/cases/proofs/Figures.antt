@@ -6,7 +6,7 @@ use Rattle.allocation_file.specs.File.{fileOf}
 use Rattle.cases.specs.Cases.{opened, termsOf, moved, said, quantity, money, left, hourFigures, nines, fileA, saidBy, saidA}
 use Rattle.cases.specs.Cases.{caseA, figuresA, caseB, figuresB, figuresC, figuresD, figuresE, figuresF, figuresG, caseI, figuresI, figuresJ}
 use Rattle.cases.specs.Cases.{tableH, caseH, figuresH, figuresK, figures, AllFigures}
-use Rattle.cases.specs.Examples.{exampleHour, exampleClosing, hoursFrom, wholeDay, start, WholeDay, TwelveUsers, Defaults}
+use Rattle.cases.specs.Examples.{exampleHour, exampleClosing, hoursFrom, zoneCalls, zoneCauses, wholeDay, start, causes, WholeDays, TwelveUsers, Defaults}
 
 pub all-figures : AllFigures
 unfolding
@@ -16,9 +16,13 @@ unfolding
     figuresK figures
 all-figures = refl
 
-pub whole-day : WholeDay
-unfolding rules exampleHour exampleClosing hoursFrom wholeDay start
-whole-day = (refl, refl, refl, refl)
+pub whole-days : WholeDays
+unfolding rules exampleHour exampleClosing hoursFrom zoneCalls zoneCauses wholeDay start causes
+whole-days = (
+  record { begins = refl; answers = refl; ends = refl; first-sum = refl; second-sum = refl },
+  record { begins = refl; answers = refl; ends = refl; first-sum = refl; second-sum = refl },
+  record { begins = refl; answers = refl; ends = refl; first-sum = refl; second-sum = refl },
+)
 
 pub twelve-users : TwelveUsers
 unfolding rules

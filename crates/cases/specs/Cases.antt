@@ -8,15 +8,14 @@ use lib.IntN.{ℤ, pos, negℤ}
 use lib.ListN.{length, getD, take, replicate}
 use Rattle.rules.specs.declared.Day.{Day}
 use Rattle.rules.specs.declared.HourTerms.{HourTerms}
-use Rattle.rules.specs.declared.Marks.{Marks}
 use Rattle.rules.specs.declared.Side.{Side}
 use Rattle.rules.specs.declared.Side.the-variants.{Excess, Shortfall}
-use Rattle.rules.specs.declared.Outcome.{Outcome}
 use Rattle.rules.specs.declared.Outcome.the-variants.{Within, Settled}
 use Rattle.rules.specs.declared.HourAnswer.{HourAnswer}
 use Rattle.rules.specs.declared.HourAnswer.the-variants.{Done}
 use Rattle.rules.specs.declared.ClosingAnswer.{ClosingAnswer}
 use Rattle.rules.specs.declared.ClosingAnswer.the-variants.{Closed}
+use Rattle.rules.specs.Limits.{lengthUsual}
 use Rattle.rules.specs.Days.{newDay, part}
 use Rattle.rules.specs.Thresholds.{upperDefault, lowerDefault}
 use Rattle.rules.specs.Hours.{Hour, Closing, before}
@@ -45,9 +44,14 @@ neg n = negℤ (pos n)
 
 -- ---- what the paper says, in its own terms
 
+-- the cases' length, and the program's
+abbrev pub casesLength : ℤ
+casesLength = pos lengthUsual
+
 -- the record of n users, of whose H zone so many hours are done; nothing was done in the L zone
 abbrev pub dayOf : ℕ → ℕ → Bool → Day
-dayOf n hours closed = record { users = pos n; h = record { hours = pos hours; closed = closed }; l = record { hours = pos 0; closed = false } }
+dayOf n hours closed =
+    record { users = pos n; length = casesLength; h = record { hours = pos hours; closed = closed }; l = record { hours = pos 0; closed = false } }
 
 -- an accepted hour within its thresholds, and one that was settled: its side, and the causers of places 0 to 63 with their number
 abbrev pub wasWithin : Day → Said
@@ -60,7 +64,7 @@ wasSettled d side first number = ofHour (Done (record { day = d; outcome = Settl
 
 -- a day of n users as opening leaves it, on a table that held something else
 unfoldable pub opened : ℕ → State
-opened n = record { day = newDay (pos n); table = openTable (pos n) (replicate 256 (pos 9)) }
+opened n = record { day = newDay (pos n) casesLength; table = openTable (pos n) casesLength (replicate 256 (pos 9)) }
 
 -- the H zone's hour h: its thresholds and its excess price
 unfoldable pub termsOf : ℕ → ℤ → ℤ → ℤ → HourTerms

@@ -14,12 +14,15 @@ mod checks;
 
 // ---- opening and default thresholds
 
-pub fn open_cause(users: i64, table: &[i64]) -> u64
-    ensures { λ r. ⌜ r ≡ openCause users (now (table .entry)) ⌝ }
+pub fn open_cause(users: i64, length: i64, table: &[i64]) -> u64
+    ensures { λ r. ⌜ r ≡ openCause users length (now (table .entry)) ⌝ }
 {
+    let few = ranges::users_fit(users);
+    let lasts = ranges::length_fit(length);
+    let long = integers::same(table.len(), 256);
     checks::first(
-        checks::refusal(ranges::users_fit(users), 1),
-        checks::refusal(integers::same(table.len(), 256), 3),
+        checks::refusal(few, 1),
+        checks::first(checks::refusal(lasts, 21), checks::refusal(long, 3)),
     )
 }
 

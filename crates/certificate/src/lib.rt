@@ -7,7 +7,7 @@
 //
 // Words in quotation marks are the papers': of the demands, or of document 01 or 02 where a line says so.
 ghost use Rattle.largest_remainder.specs.Guarantees.{AddsUp, Accurate, NoMoreThanSize};
-ghost use Rattle.rules.specs.Guarantees.{BeginsAtZero, AcceptedIfFit, Conservation, ClosedIsZero, ClosedIsMarked, Accuracy, OutcomeByThresholds, MarksAreCausers};
+ghost use Rattle.rules.specs.Guarantees.{BeginsAtZero, LengthKept, AcceptedIfFit, Conservation, ClosedIsZero, ClosedIsMarked, Accuracy, OutcomeByThresholds, MarksAreCausers};
 ghost use Rattle.file_guarantees.specs.Guarantees.{ReadIfObeyed, FirstFaultDecides, AcceptedObeys, CauseGiven, SmallNumbers, TwoForms, PointsInAmounts};
 ghost use Rattle.file_guarantees.specs.Examples.{ExamplesComputed, CaseA};
 ghost use Rattle.writer_guarantees.specs.Guarantees.{WrittenIfFit, CauseOfThree, EnoughBytes, RoundTrip, WrittenIsRead, OneText};
@@ -17,13 +17,18 @@ ghost use Rattle.flat.specs.Guarantees.{OddMarkRefused};
 ghost use Rattle.text.specs.Examples.{DecimalsShown};
 ghost use Rattle.report.specs.Examples.{CaseAShown, RefusalShown};
 ghost use Rattle.cases.specs.Cases.{AllFigures};
-ghost use Rattle.cases.specs.Examples.{WholeDay, TwelveUsers, Defaults};
+ghost use Rattle.cases.specs.Examples.{WholeDays, TwelveUsers, Defaults};
 
 // ---- the initial state
 
 // "The Gas Day shall be shown to begin at zero, not supposed to."
 pub fn the_gas_day_begins_at_zero()
     ensures { λ _. ⌜ BeginsAtZero ⌝ }
+{}
+
+// Document 02: "Opening must be told 23, 24 or 25 and the day record keeps it."
+pub fn the_day_keeps_its_length()
+    ensures { λ _. ⌜ LengthKept ⌝ }
 {}
 
 // ---- demand 2: what is accepted, and what is refused
@@ -104,7 +109,7 @@ pub fn a_file_in_kwh_has_one_text()
 // ---- demand 3: every list of hours and closings
 
 // "no kilowatt-hour has appeared or vanished at the list's end: for each zone and user, all amounts of the hours accepted equal all quantities answered by accepted hours and closings,
-// plus the position standing in the table"
+// plus the position standing in the table". Document 02: "The conservation rule is shown once for all lengths."
 pub fn no_kilowatt_hour_appears_or_vanishes()
     ensures { λ _. ⌜ Conservation ⌝ }
 {}
@@ -171,9 +176,10 @@ pub fn cases_a_to_k_hold()
     ensures { λ _. ⌜ AllFigures ⌝ }
 {}
 
-// Document 01: "Hour 24 is settled like any other before this." A day of 24 hours with refused calls in it, and its closing: what the theorems on lists speak of is there.
-pub fn a_whole_day_can_be_run()
-    ensures { λ _. ⌜ WholeDay ⌝ }
+// Document 01: "Hour 24 is settled like any other before this." A day of 23, one of 24 and one of 25 hours with refused calls in it, and its closing: what the theorems on lists speak of
+// is there.
+pub fn whole_days_can_be_run()
+    ensures { λ _. ⌜ WholeDays ⌝ }
 {}
 
 // Rule 4 among twelve users: "the largest fractions; among equal fractions, the lower place first".

@@ -27,7 +27,7 @@ unfoldable pub sameZone : ZoneDay → ZoneDay → Bool
 sameZone a b = equal (a .hours) (b .hours) && sameTest (a .closed) (b .closed)
 
 unfoldable pub sameDay : Day → Day → Bool
-sameDay a b = equal (a .users) (b .users) && (sameZone (a .h) (b .h) && sameZone (a .l) (b .l))
+sameDay a b = equal (a .users) (b .users) && (equal (a .length) (b .length) && (sameZone (a .h) (b .h) && sameZone (a .l) (b .l)))
 
 -- what stands before the words of a comparison: a comma, then a blank where it holds and a `!` where it does not
 unfoldable pub markOf : Bool → List ℕ

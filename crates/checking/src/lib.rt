@@ -167,7 +167,10 @@ pub fn same_day(a: Day, b: Day) -> bool
     ensures { λ r. ⌜ r ≡ sameDay a b ⌝ }
 {
     let zones = both(same_zone(a.h, b.h), same_zone(a.l, b.l));
-    both(equal(a.users, b.users), zones)
+    both(
+        equal(a.users, b.users),
+        both(equal(a.length, b.length), zones),
+    )
 }
 
 // ---- the record by numbers
@@ -182,10 +185,18 @@ fn zone_of(hours: i64, closed: i64) -> ZoneDay
     }
 }
 
-pub fn day_of(users: i64, h_hours: i64, h_closed: i64, l_hours: i64, l_closed: i64) -> Day
+pub fn day_of(
+    users: i64,
+    length: i64,
+    h_hours: i64,
+    h_closed: i64,
+    l_hours: i64,
+    l_closed: i64,
+) -> Day
     ensures { λ r. ⌜
         r ≡ record {
           users = users;
+          length = length;
           h = zoneBy «h_hours» «h_closed»;
           l = zoneBy «l_hours» «l_closed»;
         }
@@ -193,6 +204,7 @@ pub fn day_of(users: i64, h_hours: i64, h_closed: i64, l_hours: i64, l_closed: i
 {
     Day {
         users,
+        length,
         h: zone_of(h_hours, h_closed),
         l: zone_of(l_hours, l_closed),
     }

@@ -3,7 +3,8 @@ ghost use mathlib.Core.Path.{_≡_};
 ghost use mathlib.Core.Bool.{true};
 ghost use Prim.Native.Nat.{_≤_};
 ghost use lib.IntN.{natAbs};
-ghost use Rattle.rules.specs.Days.{hoursMost, hoursDone, isClosed};
+ghost use Rattle.rules.specs.Limits.{lengthMost};
+ghost use Rattle.rules.specs.Days.{hoursOfDay, hoursDone, isClosed};
 ghost use Rattle.rules.specs.Days.{newDay, hourMore, closedNow, dayAfterHour, dayAfterClosing};
 ghost use Rattle.rules.specs.Causes.{zoneDayFit, dayFit, hourNext, allDone};
 use rules::ClosingTerms;
@@ -12,6 +13,12 @@ use rules::HourTerms;
 use rules::ZoneDay;
 
 // ---- what is asked of it
+
+fn hours_of_day(day: Day) -> i64
+    ensures { λ r. ⌜ r ≡ hoursOfDay day ⌝ }
+{
+    day.length
+}
 
 pub fn hours_done(zone: i64, day: Day) -> i64
     ensures { λ r. ⌜ r ≡ hoursDone zone day ⌝ }
@@ -40,20 +47,25 @@ pub fn is_closed(zone: i64, day: Day) -> bool
 fn zone_day_fit(zone: i64, day: Day) -> bool
     ensures { λ r. ⌜ r ≡ zoneDayFit zone day ⌝ }
 {
+    let length = hours_of_day(day);
     let hours = hours_done(zone, day);
     let open = !is_closed(zone, day);
     integers::both(
-        integers::within(0, Day::HOURS, hours),
-        integers::either(open, integers::at_most(Day::HOURS, hours)),
+        integers::within(0, length, hours),
+        integers::either(open, integers::at_most(length, hours)),
     )
 }
 
 pub fn day_fit(day: Day) -> bool
     ensures { λ r. ⌜ r ≡ dayFit day ⌝ }
 {
+    let length = hours_of_day(day);
     integers::both(
         ranges::users_fit(day.users),
-        integers::both(zone_day_fit(0, day), zone_day_fit(1, day)),
+        integers::both(
+            ranges::length_fit(length),
+            integers::both(zone_day_fit(0, day), zone_day_fit(1, day)),
+        ),
     )
 }
 
@@ -62,23 +74,25 @@ pub fn hour_next(day: Day, terms: HourTerms) -> bool
     requires { ⌜ dayFit day ≡ true ⌝ }
     ensures { λ r. ⌜ r ≡ hourNext day terms ⌝ }
 {
+    let length = hours_of_day(day);
     let next = hours_done(terms.zone, day) + 1;
     integers::both(
         integers::equal(terms.hour, next),
-        integers::at_most(terms.hour, Day::HOURS),
+        integers::at_most(terms.hour, length),
     )
 }
 
 pub fn all_done(day: Day, terms: ClosingTerms) -> bool
     ensures { λ r. ⌜ r ≡ allDone day terms ⌝ }
 {
-    integers::at_most(Day::HOURS, hours_done(terms.zone, day))
+    let length = hours_of_day(day);
+    integers::at_most(length, hours_done(terms.zone, day))
 }
 
 // ---- what a call makes of it
 
-pub fn new_day(users: i64) -> Day
-    ensures { λ r. ⌜ r ≡ newDay users ⌝ }
+pub fn new_day(users: i64, length: i64) -> Day
+    ensures { λ r. ⌜ r ≡ newDay users length ⌝ }
 {
     let none = ZoneDay {
         hours: 0,
@@ -86,13 +100,26 @@ pub fn new_day(users: i64) -> Day
     };
     Day {
         users,
+        length,
         h: none,
         l: none,
     }
 }
 
+// The zones' parts are changed, and the record is otherwise the same.
+fn with_zones(day: Day, h: ZoneDay, l: ZoneDay) -> Day
+    ensures { λ r. ⌜ r ≡ record { users = day .users; length = day .length; h = h; l = l } ⌝ }
+{
+    Day {
+        users: day.users,
+        length: day.length,
+        h,
+        l,
+    }
+}
+
 fn hour_more(zone_day: ZoneDay) -> ZoneDay
-    requires { ⌜ natAbs («zone_day» .hours) ≤ hoursMost ⌝ }
+    requires { ⌜ natAbs («zone_day» .hours) ≤ lengthMost ⌝ }
     ensures { λ r. ⌜ r ≡ hourMore «zone_day» ⌝ }
 {
     ZoneDay {
@@ -108,19 +135,9 @@ pub fn day_after_hour(zone: i64, day: Day) -> Day
     let h = day.h;
     let l = day.l;
     if integers::is_zero(zone) {
-        let more = hour_more(h);
-        Day {
-            users: day.users,
-            h: more,
-            l,
-        }
+        with_zones(day, hour_more(h), l)
     } else {
-        let more = hour_more(l);
-        Day {
-            users: day.users,
-            h,
-            l: more,
-        }
+        with_zones(day, h, hour_more(l))
     }
 }
 
@@ -139,18 +156,8 @@ pub fn day_after_closing(zone: i64, day: Day) -> Day
     let h = day.h;
     let l = day.l;
     if integers::is_zero(zone) {
-        let closed = closed_now(h);
-        Day {
-            users: day.users,
-            h: closed,
-            l,
-        }
+        with_zones(day, closed_now(h), l)
     } else {
-        let closed = closed_now(l);
-        Day {
-            users: day.users,
-            h,
-            l: closed,
-        }
+        with_zones(day, h, closed_now(l))
     }
 }

@@ -1,5 +1,5 @@
 // The edges of settling an hour, one line a case: its changes of the usual call, what the answer says, and what a comparison with what was lent says. (The four lists
-// of amounts are lent as `&`: no call can change them.) The file `stdout`, with which the lines are compared, has the answers of document 01.
+// of amounts are lent as `&`: no call can change them.) The file `stdout`, with which the lines are compared, has the answers of documents 01 and 02.
 use checking::all_are;
 use checking::all_scratch;
 use checking::at;
@@ -43,7 +43,7 @@ fn change(sheet: &mut [i64], row: &[i64]) {
 fn fill(sheet: &mut [i64], row: &[i64]) {
     change(sheet, &rows::RECORD);
     change(sheet, &rows::PRICES);
-    change(sheet, &rows::THRESHOLDS);
+    change(sheet, &rows::TERMS);
     change(sheet, &rows::POSITIONS);
     change(sheet, &rows::ENTRIES);
     change(sheet, &rows::OTHERS);
@@ -65,6 +65,7 @@ fn users(sheet: &[i64]) -> usize {
 fn day(sheet: &[i64]) -> Day {
     checking::day_of(
         number(sheet, rows::USERS),
+        number(sheet, rows::LENGTH),
         number(sheet, rows::H_HOURS),
         number(sheet, rows::H_CLOSED),
         number(sheet, rows::L_HOURS),
@@ -258,7 +259,7 @@ fn say_answer(
 // ---- the cases
 
 fn say_place(line: &mut [u8], at: usize, place: usize) -> usize {
-    if 4200 <= place {
+    if 4500 <= place {
         let end = printing::say(line, at, b" at ");
         return printing::say_count(line, end, (place % 300) as u64);
     }
@@ -324,7 +325,7 @@ fn alone(row: [i64; 7]) {
 
 fn hours_alone() {
     let mut i: usize = 0;
-    while i < 41 {
+    while i < 43 {
         alone(rows::ALONE[i]);
         i += 1;
     }
@@ -346,7 +347,16 @@ fn hours_together() {
     }
 }
 
+fn hours_by_length() {
+    let mut i: usize = 0;
+    while i < 38 {
+        hour(rows::LENGTHS[i]);
+        i += 1;
+    }
+}
+
 fn main() {
     hours_alone();
     hours_together();
+    hours_by_length();
 }

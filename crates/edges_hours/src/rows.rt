@@ -10,52 +10,54 @@ use ranges::limits::Title;
 
 pub const USERS: i64 = 300;
 
-pub const H_HOURS: i64 = 600;
+pub const LENGTH: i64 = 600;
+
+pub const H_HOURS: i64 = 900;
 
 // 1 if the zone is closed.
-pub const H_CLOSED: i64 = 900;
+pub const H_CLOSED: i64 = 1200;
 
-pub const L_HOURS: i64 = 1200;
+pub const L_HOURS: i64 = 1500;
 
-pub const L_CLOSED: i64 = 1500;
+pub const L_CLOSED: i64 = 1800;
 
-pub const ZONE: i64 = 1800;
+pub const ZONE: i64 = 2100;
 
-pub const HOUR: i64 = 2100;
+pub const HOUR: i64 = 2400;
 
-pub const UPPER: i64 = 2400;
+pub const UPPER: i64 = 2700;
 
-pub const LOWER: i64 = 2700;
+pub const LOWER: i64 = 3000;
 
-pub const EXCESS_PRICE: i64 = 3000;
+pub const EXCESS_PRICE: i64 = 3300;
 
-pub const SHORTFALL_PRICE: i64 = 3300;
+pub const SHORTFALL_PRICE: i64 = 3600;
 
 // The places of the table.
-pub const TABLE_SIZE: i64 = 3600;
+pub const TABLE_SIZE: i64 = 3900;
 
 // The places of every list; 0: as many as users.
-pub const LISTS_SIZE: i64 = 3900;
+pub const LISTS_SIZE: i64 = 4200;
 
 // Those of one list, by its number among the call's lists: entry, exit, title, pooling, quantity, money, scratch.
-pub const LIST_SIZE: i64 = 4200;
+pub const LIST_SIZE: i64 = 4500;
 
-pub const TABLE: i64 = 4500;
+pub const TABLE: i64 = 4800;
 
-pub const ENTRY: i64 = 4800;
+pub const ENTRY: i64 = 5100;
 
-pub const EXIT: i64 = 5100;
+pub const EXIT: i64 = 5400;
 
-pub const TITLE: i64 = 5400;
+pub const TITLE: i64 = 5700;
 
-pub const POOLING: i64 = 5700;
+pub const POOLING: i64 = 6000;
 
 // The places of a sheet.
-pub const SHEET: usize = 6000;
+pub const SHEET: usize = 6300;
 
 // What a change of each kind is called, from the first kind on.
-pub const KINDS: [u8; 190] =
-    *b"|, users |, H |, H closed |, L |, L closed |, zone |, hour |, upper |, lower |, excess price |, shortfall price |, table of |, lists of |, size |, table |, entry |, exit |, title |, pooling ";
+pub const KINDS: [u8; 200] =
+    *b"|, users |, length |, H |, H closed |, L |, L closed |, zone |, hour |, upper |, lower |, excess price |, shortfall price |, table of |, lists of |, size |, table |, entry |, exit |, title |, pooling ";
 
 const POSITION: i64 = Position::MOST;
 
@@ -65,12 +67,12 @@ const PRICE: i64 = Price::MOST;
 
 const POOLED: i64 = Pooling::MOST;
 
-// Hour 2 of H, three users with 18, 14 and 28 before settlement, the widest thresholds; one hour of H and two of L done.
-pub const RECORD: [i64; 8] = [USERS, 3, H_HOURS, 1, L_HOURS, 2, HOUR, 2];
+// Hour 2 of H, three users with 18, 14 and 28 before settlement, the widest thresholds; a day of 24 hours, one of H and two of L done.
+pub const RECORD: [i64; 8] = [USERS, 3, LENGTH, 24, H_HOURS, 1, L_HOURS, 2];
 
 pub const PRICES: [i64; 4] = [EXCESS_PRICE, 20_000, SHORTFALL_PRICE, 25_000];
 
-pub const THRESHOLDS: [i64; 4] = [UPPER, THRESHOLD, LOWER, -THRESHOLD];
+pub const TERMS: [i64; 6] = [HOUR, 2, UPPER, THRESHOLD, LOWER, -THRESHOLD];
 
 pub const POSITIONS: [i64; 6] = [TABLE_SIZE, 256, TABLE, 5, TABLE + 128, -3];
 
@@ -79,11 +81,13 @@ pub const ENTRIES: [i64; 6] = [ENTRY, 10, ENTRY + 1, 14, ENTRY + 2, 28];
 pub const OTHERS: [i64; 4] = [EXIT, -1, TITLE, 4];
 
 // One change: the kind, how many numbers it is given in turn, and these.
-pub const ALONE: [[i64; 7]; 41] = [
+pub const ALONE: [[i64; 7]; 43] = [
     // the usual hour
     [0, 1, 0, 0, 0, 0, 0],
     // 2 and 3: the record, and the places of the table, of all lists and of each list
     [USERS, 5, -1, 0, 1, 128, 129],
+    [LENGTH, 5, 22, 23, 24, 25, 26],
+    [LENGTH, 3, 0, i64::MAX, i64::MIN, 0, 0],
     [H_HOURS, 3, -1, 25, 0, 0, 0],
     [L_HOURS, 4, -1, 25, 24, 0, 0],
     [TABLE_SIZE, 3, 0, 255, 257, 0, 0],
@@ -224,4 +228,50 @@ pub const LATE: [[i64; 8]; 30] = [
     [USERS, 128, LOWER, 0, EXIT + 127, -61, 0, 0],
     [USERS, 128, UPPER, 0, LOWER, 0, EXIT + 127, -60],
     [USERS, 128, LOWER, 0, EXIT + 63, -60, EXIT + 64, -40],
+];
+
+// Days of 23, 24 and 25 hours.
+pub const LENGTHS: [[i64; 8]; 38] = [
+    // 6 after the last hour, and 2 for a record with more: hours 23 to 26 of either zone, each with one hour fewer done
+    [LENGTH, 23, H_HOURS, 22, HOUR, 23, 0, 0],
+    [LENGTH, 23, H_HOURS, 23, HOUR, 24, 0, 0],
+    [LENGTH, 23, H_HOURS, 24, HOUR, 25, 0, 0],
+    [LENGTH, 23, H_HOURS, 25, HOUR, 26, 0, 0],
+    [LENGTH, 24, H_HOURS, 22, HOUR, 23, 0, 0],
+    [LENGTH, 24, H_HOURS, 23, HOUR, 24, 0, 0],
+    [LENGTH, 24, H_HOURS, 24, HOUR, 25, 0, 0],
+    [LENGTH, 24, H_HOURS, 25, HOUR, 26, 0, 0],
+    [LENGTH, 25, H_HOURS, 22, HOUR, 23, 0, 0],
+    [LENGTH, 25, H_HOURS, 23, HOUR, 24, 0, 0],
+    [LENGTH, 25, H_HOURS, 24, HOUR, 25, 0, 0],
+    [LENGTH, 25, H_HOURS, 25, HOUR, 26, 0, 0],
+    [LENGTH, 23, L_HOURS, 22, ZONE, 1, HOUR, 23],
+    [LENGTH, 23, L_HOURS, 23, ZONE, 1, HOUR, 24],
+    [LENGTH, 23, L_HOURS, 24, ZONE, 1, HOUR, 25],
+    [LENGTH, 23, L_HOURS, 25, ZONE, 1, HOUR, 26],
+    [LENGTH, 24, L_HOURS, 22, ZONE, 1, HOUR, 23],
+    [LENGTH, 24, L_HOURS, 23, ZONE, 1, HOUR, 24],
+    [LENGTH, 24, L_HOURS, 24, ZONE, 1, HOUR, 25],
+    [LENGTH, 24, L_HOURS, 25, ZONE, 1, HOUR, 26],
+    [LENGTH, 25, L_HOURS, 22, ZONE, 1, HOUR, 23],
+    [LENGTH, 25, L_HOURS, 23, ZONE, 1, HOUR, 24],
+    [LENGTH, 25, L_HOURS, 24, ZONE, 1, HOUR, 25],
+    [LENGTH, 25, L_HOURS, 25, ZONE, 1, HOUR, 26],
+    // a last hour that is settled
+    [LENGTH, 23, H_HOURS, 22, HOUR, 23, UPPER, 0],
+    [LENGTH, 25, H_HOURS, 24, HOUR, 25, UPPER, 0],
+    // 2: the hours of the other zone, and a zone closed after the last hour or before it
+    [LENGTH, 23, L_HOURS, 23, 0, 0, 0, 0],
+    [LENGTH, 23, L_HOURS, 24, 0, 0, 0, 0],
+    [LENGTH, 25, L_HOURS, 25, 0, 0, 0, 0],
+    [LENGTH, 25, L_HOURS, 26, 0, 0, 0, 0],
+    [LENGTH, 23, L_HOURS, 23, L_CLOSED, 1, TABLE + 128, 0],
+    [LENGTH, 23, L_HOURS, 22, L_CLOSED, 1, TABLE + 128, 0],
+    [LENGTH, 25, L_HOURS, 25, L_CLOSED, 1, TABLE + 128, 0],
+    [LENGTH, 25, L_HOURS, 24, L_CLOSED, 1, TABLE + 128, 0],
+    [LENGTH, 25, H_HOURS, 24, H_CLOSED, 1, TABLE, 0],
+    // 2 before 3, and with hours that this length would have
+    [LENGTH, 22, TABLE_SIZE, 255, 0, 0, 0, 0],
+    [LENGTH, 22, H_HOURS, 21, HOUR, 22, 0, 0],
+    [LENGTH, 26, H_HOURS, 25, HOUR, 26, 0, 0],
 ];

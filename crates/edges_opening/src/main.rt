@@ -1,5 +1,5 @@
-// The edges of opening a day and of the default thresholds, one line a case: every number of a list with every one of another. The file `stdout`, with which the
-// lines are compared, has the answers of document 01.
+// The edges of opening a day and of the default thresholds, one line a case: every number of a list with every one of the others. The file `stdout`, with which the
+// lines are compared, has the answers of documents 01 and 02.
 use checking::all_are;
 use checking::first;
 use checking::lent;
@@ -9,6 +9,8 @@ use rules::OpenAnswer;
 use rules::ThresholdsAnswer;
 
 const USERS: [i64; 9] = [0, 1, 2, 127, 128, 129, -1, i64::MAX, i64::MIN];
+
+const LENGTHS: [i64; 8] = [24, 23, 25, 22, 26, 0, i64::MAX, i64::MIN];
 
 // The places of the table.
 const SIZES: [i64; 4] = [256, 255, 257, 0];
@@ -52,12 +54,12 @@ fn say_opened(line: &mut [u8], at: usize, answer: OpenAnswer, table: &[i64]) -> 
     }
 }
 
-fn open(users: i64, places: i64) {
+fn open(users: i64, length: i64, places: i64) {
     let mut table = [LENT; 257];
-    let answer = gas_day::open(users, lent(&mut table, 0, natural(places)));
-    let row = [users, places];
+    let answer = gas_day::open(users, length, lent(&mut table, 0, natural(places)));
+    let row = [users, length, places];
     let mut line = [0u8; 512];
-    let end = printing::say_row(&mut line, 0, b"open | users, table of |", &row);
+    let end = printing::say_row(&mut line, 0, b"open | users, length |, table of |", &row);
     let end = say_opened(&mut line, end, answer, &table);
     let end = printing::say_byte(&mut line, end, b'\n');
     io::write_all(STDOUT_FILENO, printing::whole(&line, end));
@@ -65,8 +67,8 @@ fn open(users: i64, places: i64) {
 
 fn openings() {
     let mut i: usize = 0;
-    while i < 36 {
-        open(USERS[i % 9], SIZES[i / 9]);
+    while i < 288 {
+        open(USERS[i % 9], LENGTHS[i / 36], SIZES[i / 9 % 4]);
         i += 1;
     }
 }

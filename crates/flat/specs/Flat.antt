@@ -26,10 +26,10 @@ use Rattle.flat.specs.declared.FileC.{FileC}
 use Rattle.flat.specs.declared.WrittenC.{WrittenC}
 use Rattle.record_c.specs.Records.{dayForC}
 
--- ---- opening: a refusal gives the record of no users
+-- ---- opening: a refusal gives the record of no users and length 0
 
 abbrev pub flatOpen : OpenAnswer → OpenC
-flatOpen (OpenRefused k) = record { cause = k; day = dayForC (newDay (pos 0)) }
+flatOpen (OpenRefused k) = record { cause = k; day = dayForC (newDay (pos 0) (pos 0)) }
 flatOpen (Opened d) = record { cause = 0; day = dayForC d }
 
 -- ---- default thresholds

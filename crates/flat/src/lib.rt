@@ -32,6 +32,7 @@ pub fn flat_open(answer: OpenAnswer) -> OpenC
             };
             let day = DayC {
                 users: 0,
+                length: 0,
                 h: none,
                 l: none,
             };

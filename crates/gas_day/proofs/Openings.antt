@@ -18,18 +18,18 @@ use Rattle.rules.specs.Promises.{OpenPromise}
 use Rattle.rules.proofs.Refusing.{unless-none, then-none, some-cause, by-none, by-some}
 use Rattle.rules.proofs.Accepted.{table-long}
 
-module _ (n : ℤ) (t : List ℤ) (c : ℕ) (is : c ≡ openCause n t) where
-  pub not-opened : (c ≡ 0 → ⊥) → OpenPromise n t t (OpenRefused c)
+module _ (n len : ℤ) (t : List ℤ) (c : ℕ) (is : c ≡ openCause n len t) where
+  pub not-opened : (c ≡ 0 → ⊥) → OpenPromise n len t t (OpenRefused c)
   unfolding openAnswer openTable
   not-opened h =
-      let k : 0 < openCause n t = some-cause is h in
+      let k : 0 < openCause n len t = some-cause is h in
       record { answer = ap OpenRefused is ∙ sym (by-some _ _ _ k); table = sym (by-some _ _ _ k) }
 
-  pub opened : c ≡ 0 → (d : Day) (t' : List ℤ) → d ≡ newDay n → t' ≡ replicate (length t) (pos 0) → OpenPromise n t t' (Opened d)
+  pub opened : c ≡ 0 → (d : Day) (t' : List ℤ) → d ≡ newDay n len → t' ≡ replicate (length t) (pos 0) → OpenPromise n len t t' (Opened d)
   unfolding openAnswer openTable openCause
   opened z d t' e f =
       let none = sym is ∙ z in
-      let long = table-long t (unless-none _ _ (lit< tt) (then-none none .1)) in
+      let long = table-long t (unless-none _ _ (lit< tt) (then-none (then-none none .1) .1)) in
       record { answer = rw e (sym (by-none _ _ _ none)); table = f ∙ rw long (sym (by-none _ _ _ none)) }
 
 module _ (month zone : ℤ) (c : ℕ) (is : c ≡ thresholdsCause month zone) where

@@ -23,16 +23,16 @@ fn refusal(number: u64, day: Day) -> Refusal
     Refusal { number, day }
 }
 
-// Opens a Gas Day: causes 1 and 3.
-pub fn open(users: i64, table: &mut [i64]) -> OpenAnswer
-    ensures { λ r. ⌜ OpenPromise users (now (table .entry)) (now (table .exit)) r ⌝ }
+// Opens a Gas Day of so many hours: causes 1, 21 and 3.
+pub fn open(users: i64, length: i64, table: &mut [i64]) -> OpenAnswer
+    ensures { λ r. ⌜ OpenPromise users length (now (table .entry)) (now (table .exit)) r ⌝ }
 {
-    let cause = causes::open_cause(users, table);
+    let cause = causes::open_cause(users, length, table);
     if cause != 0 {
         return OpenAnswer::Refused(cause);
     }
     integers::clear(table);
-    OpenAnswer::Opened(day_record::new_day(users))
+    OpenAnswer::Opened(day_record::new_day(users, length))
 }
 
 // The default thresholds of a month and zone: causes 4 and 8.

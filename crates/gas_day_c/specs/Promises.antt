@@ -19,11 +19,11 @@ use Rattle.flat.specs.Flat.{flatOpen, flatHour, flatClosing, flatFile, flatWrit
 
 -- the interface's version
 unfoldable pub version : ℕ
-version = 1
+version = 2
 
-pub record OpenForC (n : ℤ) (t t' : List ℤ) (r : OpenC) : Type 0 where
-  pub answer : r ≡ flatOpen (openAnswer n t)
-  pub table : t' ≡ openTable n t
+pub record OpenForC (n len : ℤ) (t t' : List ℤ) (r : OpenC) : Type 0 where
+  pub answer : r ≡ flatOpen (openAnswer n len t)
+  pub table : t' ≡ openTable n len t
 
 pub record HourForC (d : DayC) (t : List ℤ) (g : Hour) (t' q' m' : List ℤ) (s' : List ℕ) (r : HourC) : Type 0 where
   pub answer : r ≡ flatHour d (hourAnswer (dayOf d) t g)

@@ -17,7 +17,7 @@ use rules::ClosingTerms;
 use rules::HourTerms;
 
 // The interface's version: one more where a client that was built with an older header would call it wrongly.
-pub const VERSION: u64 = 1;
+pub const VERSION: u64 = 2;
 
 #[no_mangle]
 pub extern "C" fn gas_day_version() -> u64
@@ -29,10 +29,10 @@ pub extern "C" fn gas_day_version() -> u64
 // ---- opening
 
 #[no_mangle]
-pub extern "C" fn gas_day_open(users: i64, table: &mut [i64]) -> OpenC
-    ensures { λ r. ⌜ OpenForC users (now (table .entry)) (now (table .exit)) r ⌝ }
+pub extern "C" fn gas_day_open(users: i64, length: i64, table: &mut [i64]) -> OpenC
+    ensures { λ r. ⌜ OpenForC users length (now (table .entry)) (now (table .exit)) r ⌝ }
 {
-    flat::flat_open(gas_day::open(users, table))
+    flat::flat_open(gas_day::open(users, length, table))
 }
 
 // ---- default thresholds

@@ -26,29 +26,29 @@ pub accepted-text : {c : ℕ} (text : List ℕ) → c ≡ 0 → unlessRefused c 
 unfolding unlessRefused
 accepted-text text k = by-none _ _ _ k
 
-module _ (n : ℤ) (t : List ℤ) where
-  open-number : openNumber (openAnswer n t) ≡ openCause n t
+module _ (n len : ℤ) (t : List ℤ) where
+  open-number : openNumber (openAnswer n len t) ≡ openCause n len t
   unfolding openNumber openAnswer
-  open-number = by-number openNumber _ (λ k. OpenRefused k) refl (λ k. refl) (openCause n t)
+  open-number = by-number openNumber _ (λ k. OpenRefused k) refl (λ k. refl) (openCause n len t)
 
-  pub open-refused : {k : ℕ} (text : List ℕ) → OpenRefused k ≡ openAnswer n t → unlessRefused (openCause n t) text ≡ refusedLine k
+  pub open-refused : {k : ℕ} (text : List ℕ) → OpenRefused k ≡ openAnswer n len t → unlessRefused (openCause n len t) text ≡ refusedLine k
   unfolding openNumber openAnswer
-  open-refused {k} text e = go (eq-zero-or-pos (openCause n t))
+  open-refused {k} text e = go (eq-zero-or-pos (openCause n len t))
     where
-      go : (openCause n t ≡ 0) ⊎ (0 < openCause n t) → unlessRefused (openCause n t) text ≡ refusedLine k
+      go : (openCause n len t ≡ 0) ⊎ (0 < openCause n len t) → unlessRefused (openCause n len t) text ≡ refusedLine k
       go (inl z) =
-          let q : OpenRefused k ≡ Opened (newDay n) = e ∙ by-none _ _ _ z in
+          let q : OpenRefused k ≡ Opened (newDay n len) = e ∙ by-none _ _ _ z in
           let y : _≡_ {A = ℕ} 0 1 = cc in
           absurd (omega arith)
       go (inr h) = refused-line text (ap openNumber e ∙ open-number) h
 
-  pub open-none : {d : Day} → Opened d ≡ openAnswer n t → openCause n t ≡ 0
+  pub open-none : {d : Day} → Opened d ≡ openAnswer n len t → openCause n len t ≡ 0
   unfolding openNumber
   open-none e = sym (ap openNumber e ∙ open-number)
 
-  pub open-day : {d : Day} → Opened d ≡ openAnswer n t → d ≡ newDay n
+  pub open-day : {d : Day} → Opened d ≡ openAnswer n len t → d ≡ newDay n len
   unfolding openAnswer
-  open-day {d} e = let q : Opened d ≡ Opened (newDay n) = e ∙ by-none _ _ _ (open-none e) in cc
+  open-day {d} e = let q : Opened d ≡ Opened (newDay n len) = e ∙ by-none _ _ _ (open-none e) in cc
 
 module _ (month zone : ℤ) where
   thresholds-number : thresholdsNumber (thresholdsAnswer month zone) ≡ thresholdsCause month zone

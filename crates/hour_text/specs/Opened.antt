@@ -6,6 +6,7 @@ use lib.ListN.{length, take, replicate}
 use Rattle.rules.specs.declared.Day.{Day}
 use Rattle.rules.specs.declared.HourTerms.{HourTerms}
 use Rattle.rules.specs.declared.Thresholds.{Thresholds}
+use Rattle.rules.specs.Limits.{lengthUsual}
 use Rattle.rules.specs.Refusals.{byCause}
 use Rattle.rules.specs.Days.{users, part, newDay}
 use Rattle.rules.specs.Hours.{Hour, hourGiven, before}
@@ -38,11 +39,15 @@ withDefaults d t hour zone entry exit title pooling quantity money scratch =
     unlessRefused (thresholdsCause (pos 1) zone)
     (settled d t (hourGiven (januaryTerms hour zone) entry exit title pooling quantity money scratch))
 
--- "opens a day of that many users"
+-- "opens a day of that many users", of the cases' and the program's length
+abbrev pub programLength : ℤ
+programLength = pos lengthUsual
+
 unfoldable pub opened : ℤ → ℤ → List ℤ → List ℤ → List ℤ → List ℤ → List ℤ → List ℤ → List ℤ → List ℕ → List ℕ
 opened hour zone table entry exit title pooling quantity money scratch =
     let n = pos (length entry) in
-    unlessRefused (openCause n table) (withDefaults (newDay n) (openTable n table) hour zone entry exit title pooling quantity money scratch)
+    unlessRefused (openCause n programLength table)
+    (withDefaults (newDay n programLength) (openTable n programLength table) hour zone entry exit title pooling quantity money scratch)
 
 -- the same with lists of zeros, as the program lends them
 unfoldable pub openedNew : ℤ → ℤ → List ℤ → List ℤ → List ℤ → List ℤ → List ℕ

@@ -170,7 +170,7 @@ fn january_text(
     )
 }
 
-// Opens a day of as many users as there are entries, and settles the hour.
+// Opens a day of as many users as there are entries and of the usual length, and settles the hour.
 fn day_text(
     out: &mut [u8],
     hour: i64,
@@ -194,7 +194,8 @@ fn day_text(
         (now (out .exit)) r
         ⌝ }
 {
-    let day = match open(integers::signed(entry.len() as u64), table) {
+    let users = integers::signed(entry.len() as u64);
+    let day = match open(users, Day::LENGTH_USUAL, table) {
         OpenAnswer::Refused(number) => return write_refused(out, number),
         OpenAnswer::Opened(day) => day,
     };

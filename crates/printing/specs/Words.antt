@@ -64,7 +64,7 @@ unfoldable pub zoneText : ZoneDay → List ℕ
 zoneText z = decimal (z .hours) ++ closedText (z .closed)
 
 unfoldable pub dayText : Day → List ℕ
-dayText d = bytes "users " ++ decimal (d .users) ++ bytes ", H " ++ zoneText (d .h) ++ bytes ", L " ++ zoneText (d .l)
+dayText d = filled (bytes "users |, length |, H ") (d .users ∷ d .length ∷ []) ++ zoneText (d .h) ++ bytes ", L " ++ zoneText (d .l)
 
 -- ---- refusals
 unfoldable pub refusedText : ℕ → List ℕ

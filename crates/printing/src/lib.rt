@@ -182,9 +182,8 @@ fn say_zone(line: &mut [u8], at: usize, zone_day: ZoneDay) -> usize
 pub fn say_day(line: &mut [u8], at: usize, day: Day) -> usize
     ensures { λ r. ⌜ Said (now (line .entry)) at (dayText day) (now (line .exit)) r ⌝ }
 {
-    let end = say(line, at, b"users ");
-    let end = say_number(line, end, day.users);
-    let end = say(line, end, b", H ");
+    let numbers = [day.users, day.length];
+    let end = say_row(line, at, b"users |, length |, H ", &numbers);
     let end = say_zone(line, end, day.h);
     let end = say(line, end, b", L ");
     say_zone(line, end, day.l)

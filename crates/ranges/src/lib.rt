@@ -1,7 +1,7 @@
-// "Quantities and their ranges": the tests of causes 1, 4 and 8, of a number each. Those of lists are with their limits.
+// "Quantities and their ranges": the tests of causes 1, 4, 8 and 21, of a number each. Those of lists are with their limits.
 ghost use mathlib.Core.Path.{_≡_};
 ghost use mathlib.Core.Bool.{_&&_};
-ghost use Rattle.rules.specs.Limits.{usersFit, zoneFit, monthFit, upperFit, lowerFit};
+ghost use Rattle.rules.specs.Limits.{usersFit, lengthFit, zoneFit, monthFit, upperFit, lowerFit};
 ghost use Rattle.rules.specs.Causes.{pricesFit, termsFit};
 use limits::Price;
 use limits::Threshold;
@@ -15,6 +15,12 @@ pub fn users_fit(users: i64) -> bool
     ensures { λ r. ⌜ r ≡ usersFit users ⌝ }
 {
     integers::within(Day::USERS_LEAST, Day::USERS_MOST, users)
+}
+
+pub fn length_fit(length: i64) -> bool
+    ensures { λ r. ⌜ r ≡ lengthFit length ⌝ }
+{
+    integers::within(Day::LENGTH_LEAST, Day::LENGTH_MOST, length)
 }
 
 pub fn zone_fit(zone: i64) -> bool

@@ -13,7 +13,7 @@ unfoldable pub zoneForC : ZoneDay → ZoneDayC
 zoneForC z = record { hours = z .hours; closed = pos (bit (z .closed)) }
 
 unfoldable pub dayForC : Day → DayC
-dayForC d = record { users = d .users; h = zoneForC (d .h); l = zoneForC (d .l) }
+dayForC d = record { users = d .users; length = d .length; h = zoneForC (d .h); l = zoneForC (d .l) }
 
 -- ---- a record that a caller gives
 
@@ -32,4 +32,4 @@ unfoldable pub zoneOf : ZoneDayC → ZoneDay
 zoneOf z = record { hours = z .hours; closed = not (isZero (z .closed)) }
 
 unfoldable pub dayOf : DayC → Day
-dayOf d = record { users = usersOf d; h = zoneOf (d .h); l = zoneOf (d .l) }
+dayOf d = record { users = usersOf d; length = d .length; h = zoneOf (d .h); l = zoneOf (d .l) }

@@ -16,6 +16,7 @@ pub struct ZoneDayC {
 #[repr(C)]
 pub struct DayC {
     pub users: i64,
+    pub length: i64,
     pub h: ZoneDayC,
     pub l: ZoneDayC,
 }
@@ -42,6 +43,7 @@ pub fn day_for_c(day: Day) -> DayC
 {
     DayC {
         users: day.users,
+        length: day.length,
         h: zone_for_c(day.h),
         l: zone_for_c(day.l),
     }
@@ -80,6 +82,7 @@ pub fn day_of(day: DayC) -> Day
 {
     Day {
         users: users_of(day),
+        length: day.length,
         h: zone_of(day.h),
         l: zone_of(day.l),
     }

@@ -1,8 +1,11 @@
 -- What an accepted hour and an accepted closing may count on: all that the causes rule out. Assumes nothing.
-use mathlib.Core.Path.{_≡_, refl, sym}
+use mathlib.Core.Path.{_≡_, refl, sym, ap}
 use mathlib.Core.Bool.{Bool, true, false, _&&_}
+use mathlib.Core.Logic.{_⊎_, inl, inr}
 use mathlib.Core.List.{List}
-use Prim.Native.Nat.{ℕ, _≤_}
+use Prim.Native.Nat.{ℕ, _≤_, _<_}
+use native.Mathlib.Omega.{arith}
+use native.Mathlib.Nat.{eq-or-lt-of-le}
 use borrow.Author.Tests.{leb-true, eqb-true, not-true}
 use lib.Dec.{lit<, leb}
 use lib.IntN.{ℤ, pos, negsuc, negℤ}
@@ -17,7 +20,7 @@ use Rattle.rules.specs.declared.Day.{Day}
 use Rattle.rules.specs.declared.HourAnswer.the-variants.{Refused as HourRefused}
 use Rattle.rules.specs.declared.ClosingAnswer.the-variants.{Refused as ClosingRefused}
 use Rattle.rules.specs.declared.HourTerms.{HourTerms}
-use Rattle.rules.specs.Limits.{thresholdMost, usersFit, zoneFit, positionFit, upperFit, lowerFit}
+use Rattle.rules.specs.Limits.{lengthLeast, lengthMost, thresholdMost, usersFit, lengthFit, zoneFit, positionFit, upperFit, lowerFit}
 use Rattle.rules.specs.Days.{users, isClosed, firstPlace, part}
 use Rattle.rules.specs.Hours.{Hour, Closing}
 use Rattle.rules.specs.Causes.{hourCause, closingCause, dayFit, tableLong, listLong, scratchLong, hourLong, closingLong, zoneOpen, positionsFit, tableFit, termsFit}
@@ -116,6 +119,22 @@ pub users-range : (n : ℤ) → usersFit n ≡ true → (1 ≤ natural n) × (na
 unfolding usersFit natural
 users-range (pos n) e = let k = and-true (leb 1 n) (leb n 128) e in (leb-true 1 n (k .0), leb-true n 128 (k .1))
 users-range (negsuc n) e = not-both (sym e)
+
+-- which lengths fit
+pub length-of : (len : ℤ) → lengthFit len ≡ true → (len ≡ pos 23) ⊎ ((len ≡ pos 24) ⊎ (len ≡ pos 25))
+unfolding lengthFit
+length-of (pos n) e =
+    let k = and-true (leb lengthLeast n) (leb n lengthMost) e in
+    from-23 (eq-or-lt-of-le (leb-true lengthLeast n (k .0))) (leb-true n lengthMost (k .1))
+  where
+    from-24 : (24 ≡ n) ⊎ (24 < n) → n ≤ lengthMost → (pos n ≡ pos 24) ⊎ (pos n ≡ pos 25)
+    from-24 (inl q) m = inl (ap pos (sym q))
+    from-24 (inr l) m = inr (ap pos (omega arith))
+
+    from-23 : (23 ≡ n) ⊎ (23 < n) → n ≤ lengthMost → (pos n ≡ pos 23) ⊎ ((pos n ≡ pos 24) ⊎ (pos n ≡ pos 25))
+    from-23 (inl q) m = inl (ap pos (sym q))
+    from-23 (inr l) m = inr (from-24 (eq-or-lt-of-le l) m)
+length-of (negsuc n) e = not-both (sym e)
 
 pub users-of : (d : Day) → dayFit d ≡ true → (1 ≤ users d) × (users d ≤ 128)
 unfolding dayFit users

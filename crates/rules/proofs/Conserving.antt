@@ -1,5 +1,5 @@
 -- Conservation along a list of calls, and a closed zone. Assumes nothing.
-use mathlib.Core.Path.{_≡_, refl, sym, ap, ap₂, _∙_}
+use mathlib.Core.Path.{_≡_, refl, sym, ap, ap₂, _∙_, subst}
 use mathlib.Core.Bool.{Bool, true, false, cond, _&&_, _||_, or-true, or-false, or-assoc}
 use mathlib.Core.Logic.{_⊎_, inl, inr}
 use mathlib.Core.List.{List, [], _∷_}
@@ -18,15 +18,16 @@ use Rattle.integers.proofs.Counts.{length-tabulate, getD-tabulate}
 use Rattle.rules.specs.declared.Day.{Day}
 use Rattle.rules.specs.declared.ZoneDay.{ZoneDay}
 use Rattle.rules.specs.declared.OpenAnswer.the-variants.{Refused as OpenRefused, Opened}
+use Rattle.rules.specs.Limits.{lengthFit}
 use Rattle.rules.specs.Refusals.{byCause}
-use Rattle.rules.specs.Days.{users, zoneDay, hoursDone, isClosed, newDay, dayAfterHour, dayAfterClosing, firstPlace, part, place, onto}
+use Rattle.rules.specs.Days.{users, hoursOfDay, zoneDay, hoursDone, isClosed, newDay, dayAfterHour, dayAfterClosing, firstPlace, part, place, onto}
 use Rattle.rules.specs.Hours.{Hour, Closing, amounts, before, standing}
 use Rattle.rules.specs.Market.{after}
 use Rattle.rules.specs.Causes.{openCause, hourCause, closingCause}
 use Rattle.rules.specs.Answers.{openAnswer, openTable, hourImbalance, hourAnswer, hourTable, hourQuantity, hourDay, closingAnswer, closingTable, closingQuantity, closingDay}
-use Rattle.rules.specs.History.{Call, hour, closing, State, opened, step, run, hourAccepted, closingAccepted, addsFirst, addsSecond, firstSum, secondSum, closesNow, closes}
+use Rattle.rules.specs.History.{Call, hour, closing, State, step, run, hourAccepted, closingAccepted, addsFirst, addsSecond, firstSum, secondSum, closesNow, closes}
 use Rattle.rules.proofs.Refusing.{unless-none, then-none, by-none, by-some, by-ap}
-use Rattle.rules.proofs.Zones.{Zone, H, L, length-part, part-changed, part-other, length-onto, getD-onto, users-kept, closed-hour, closed-closing}
+use Rattle.rules.proofs.Zones.{Zone, H, L, length-part, part-changed, part-other, length-onto, getD-onto, of-both, Keeps, zone-keeps, closed-hour, closed-closing}
 use Rattle.rules.proofs.Accepted.{users-range, hour-sound, closing-sound, hour-open, closing-open, hour-number, closing-number}
 use Rattle.rules.proofs.Settling.{length-after, after-at}
 
@@ -115,18 +116,27 @@ closing-day : (d : Day) (t : List ℤ) (g : Closing)
 unfolding closingAnswer closingDay
 closing-day d t g = by-ap closingDay (closingCause d t g) _ _
 
--- the user count stays
-by-users : (k : ℕ) (e d : Day) → e .users ≡ d .users → byCause k e d .users ≡ d .users
+-- the user count and the length stay
+by-keeps : (k : ℕ) (e d : Day) → Keeps e d → Keeps (byCause k e d) d
 unfolding byCause
-by-users zero e d h = h
-by-users (suc k) e d h = refl
+by-keeps zero e d h = h
+by-keeps (suc k) e d h = record { users = refl; length = refl }
+
+step-keeps : (s : State) (c : Call) → Keeps (step s c .day) (s .day)
+unfolding step dayAfterHour dayAfterClosing
+step-keeps s (hour g) =
+    subst (λ (d : Day). Keeps d (s .day)) (sym (hour-day (s .day) (s .table) g)) (by-keeps _ _ _ (zone-keeps (g .terms .zone) _ (s .day)))
+step-keeps s (closing g) =
+    subst (λ (d : Day). Keeps d (s .day)) (sym (closing-day (s .day) (s .table) g)) (by-keeps _ _ _ (zone-keeps (g .terms .zone) _ (s .day)))
 
 users-step : (s : State) (c : Call) → users (step s c .day) ≡ users (s .day)
-unfolding step users dayAfterHour dayAfterClosing
-users-step s (hour g) =
-    ap natural (ap (λ (d : Day). d .users) (hour-day (s .day) (s .table) g) ∙ by-users _ _ _ (users-kept (g .terms .zone) _ (s .day)))
-users-step s (closing g) =
-    ap natural (ap (λ (d : Day). d .users) (closing-day (s .day) (s .table) g) ∙ by-users _ _ _ (users-kept (g .terms .zone) _ (s .day)))
+unfolding users
+users-step s c = ap natural (step-keeps s c .users)
+
+pub length-run : (s : State) (cs : List Call) → hoursOfDay (run s cs .day) ≡ hoursOfDay (s .day)
+unfolding run hoursOfDay
+length-run s [] = refl
+length-run s (c ∷ cs) = length-run (step s c) cs ∙ step-keeps s c .length
 
 -- ---- one call: what it adds to the first sum, it adds to the second and to the place
 hour-balance : (p a q : ℤ) → a +ℤ p ≡ q +ℤ (p +ℤ a -ℤ q)
@@ -189,48 +199,50 @@ module _ (zone : ℤ) (user : ℕ) (zoned : Zone zone) where
       (step-balance s c h) (balance (step s c) cs (omega (arith, users-step s c)))
 
 -- ---- an opened day begins at zero
-pub opened-by : (n : ℤ) (t : List ℤ) (d : Day) → openAnswer n t ≡ Opened d → (openCause n t ≡ 0) × (d ≡ newDay n)
-unfolding openAnswer
-opened-by n t d e = go (eq-zero-or-pos (openCause n t))
-  where
-    go : (openCause n t ≡ 0) ⊎ (0 < openCause n t) → (openCause n t ≡ 0) × (d ≡ newDay n)
-    go (inl k) = let q : Opened (newDay n) ≡ Opened d = sym (by-none _ _ _ k) ∙ e in (k, cc)
-    go (inr k) =
-        let q : OpenRefused (openCause n t) ≡ Opened d = sym (by-some _ _ _ k) ∙ e in
-        let z : _≡_ {A = ℕ} 0 1 = cc in
-        absurd (omega arith)
+module _ (n len : ℤ) (t : List ℤ) where
+  pub opened-by : (d : Day) → openAnswer n len t ≡ Opened d → (openCause n len t ≡ 0) × (d ≡ newDay n len)
+  unfolding openAnswer
+  opened-by d e = go (eq-zero-or-pos (openCause n len t))
+    where
+      go : (openCause n len t ≡ 0) ⊎ (0 < openCause n len t) → (openCause n len t ≡ 0) × (d ≡ newDay n len)
+      go (inl k) = let q : Opened (newDay n len) ≡ Opened d = sym (by-none _ _ _ k) ∙ e in (k, cc)
+      go (inr k) =
+          let q : OpenRefused (openCause n len t) ≡ Opened d = sym (by-some _ _ _ k) ∙ e in
+          let z : _≡_ {A = ℕ} 0 1 = cc in
+          absurd (omega arith)
 
-pub open-users : (n : ℤ) (t : List ℤ) → openCause n t ≡ 0 → natural n ≤ 128
-unfolding openCause
-open-users n t k = users-range n (unless-none _ _ (lit< tt) (then-none k .0)) .1
+  module _ (k : openCause n len t ≡ 0) where
+    pub open-users : natural n ≤ 128
+    unfolding openCause
+    open-users = users-range n (unless-none _ _ (lit< tt) (then-none k .0)) .1
 
-pub open-table : (n : ℤ) (t : List ℤ) → openCause n t ≡ 0 → openTable n t ≡ replicate 256 (pos 0)
-unfolding openTable
-open-table n t k = by-none _ _ _ k
+    pub open-length : lengthFit len ≡ true
+    unfolding openCause
+    open-length = unless-none _ _ (lit< tt) (then-none (then-none k .1) .0)
+
+    pub open-table : openTable n len t ≡ replicate 256 (pos 0)
+    unfolding openTable
+    open-table = by-none _ _ _ k
 
 zero-place : {zone : ℤ} → Zone zone → (p : ℕ) → p < 128 → place zone p (replicate 256 (pos 0)) ≡ pos 0
 unfolding place part firstPlace
 zero-place H p h = getD-replicate 128 p (pos 0) (pos 0) h
 zero-place L p h = getD-replicate 128 p (pos 0) (pos 0) h
 
-pub open-zero : (n : ℤ) (t : List ℤ) → openCause n t ≡ 0 → {zone : ℤ} → Zone zone → (p : ℕ) → p < 128 → place zone p (openTable n t) ≡ pos 0
-open-zero n t k {zone} zoned p h = ap (place zone p) (open-table n t k) ∙ zero-place zoned p h
+pub open-zero : (n len : ℤ) (t : List ℤ) → openCause n len t ≡ 0 → {zone : ℤ} → Zone zone → (p : ℕ) → p < 128 → place zone p (openTable n len t) ≡ pos 0
+open-zero n len t k {zone} zoned p h = ap (place zone p) (open-table n len t k) ∙ zero-place zoned p h
 
 -- whichever zone: no hours done, and not closed
-module _ (zone n : ℤ) where
-  by-zone : {A : Type 0} (f : ZoneDay → A) (a : A) → f (newDay n .h) ≡ a → f (newDay n .l) ≡ a → f (zoneDay zone (newDay n)) ≡ a
+module _ (zone n len : ℤ) where
+  by-zone : {A : Type 0} (f : ZoneDay → A) (a : A) → f (newDay n len .h) ≡ a → f (newDay n len .l) ≡ a → f (zoneDay zone (newDay n len)) ≡ a
   unfolding zoneDay
-  by-zone f a h l = go (isZero zone)
-    where
-      go : (b : Bool) → f (cond b (newDay n .h) (newDay n .l)) ≡ a
-      go true = h
-      go false = l
+  by-zone f a h l = of-both (λ (z : ZoneDay). f z ≡ a) (isZero zone) h l
 
-  pub new-hours : hoursDone zone (newDay n) ≡ pos 0
+  pub new-hours : hoursDone zone (newDay n len) ≡ pos 0
   unfolding newDay hoursDone
   new-hours = by-zone (λ z. z .hours) (pos 0) refl refl
 
-  pub new-open : isClosed zone (newDay n) ≡ false
+  pub new-open : isClosed zone (newDay n len) ≡ false
   unfolding newDay isClosed
   new-open = by-zone (λ z. z .closed) false refl refl
 

@@ -8,7 +8,7 @@ use native.Mathlib.Omega.{arith}
 use native.Mathlib.Nat.{eq-zero-or-pos}
 use lib.IntN.{ℤ, pos, _+ℤ_, +ℤ-idr}
 use lib.ListN.{length, getD, length-map, List·getD-map}
-use Rattle.integers.specs.Lists.{sumℤ, count}
+use Rattle.integers.specs.Lists.{sumℤ}
 use Rattle.integers.proofs.Counts.{count-map}
 use Rattle.rules.specs.declared.Day.{Day}
 use Rattle.rules.specs.declared.HourDone.{HourDone}
@@ -17,23 +17,29 @@ use Rattle.rules.specs.declared.Side.{Side}
 use Rattle.rules.specs.declared.Outcome.{Outcome}
 use Rattle.rules.specs.declared.Outcome.the-variants.{Settled}
 use Rattle.rules.specs.declared.HourAnswer.the-variants.{Refused as HourRefused, Done}
-use Rattle.rules.specs.Days.{users, zoneDay, isClosed, newDay, dayAfterHour}
+use Rattle.rules.specs.Days.{users, hoursOfDay, zoneDay, isClosed, newDay, dayAfterHour}
 use Rattle.rules.specs.Hours.{Hour, before}
 use Rattle.rules.specs.Market.{Imbalance, within, excess, shortfall, imbalance, caused, causers, marks, outcome}
 use Rattle.rules.specs.Causes.{hourCause, beforeFit}
 use Rattle.rules.specs.Answers.{hourAnswer, hourImbalance, hourQuantity}
 use Rattle.rules.specs.History.{opened, firstSum, closes}
-use Rattle.rules.specs.Guarantees.{BeginsAtZero, AcceptedIfFit, Conservation, ClosedIsZero, ClosedIsMarked, Accuracy, OutcomeTells, OutcomeByThresholds, marked, MarksAreCausers}
+use Rattle.rules.specs.Guarantees.{BeginsAtZero, LengthKept, AcceptedIfFit, Conservation, ClosedIsZero, ClosedIsMarked, Accuracy, OutcomeByThresholds, MarksAreCausers}
 use Rattle.rules.proofs.Refusing.{by-none, by-some}
 use Rattle.rules.proofs.Zones.{zone-of}
-use Rattle.rules.proofs.Accepted.{hour-fit, fit-hour, hour-sound, hour-number, closing-fit, fit-closing, closing-number, thresholds-sound}
+use Rattle.rules.proofs.Accepted.{length-of, hour-fit, fit-hour, hour-sound, hour-number, closing-fit, fit-closing, closing-number, thresholds-sound}
 use Rattle.rules.proofs.Marking.{marked-at, marks-number}
 use Rattle.rules.proofs.Settling.{view, settles}
 use Rattle.rules.proofs.Telling.{tells}
-use Rattle.rules.proofs.Conserving.{length-before, positions-left, balance, opened-by, open-users, open-table, open-zero, new-hours, new-open, marked-run, closed-zero}
+use Rattle.rules.proofs.Conserving.{length-before, positions-left, length-run, balance, opened-by, open-users, open-length, open-table, open-zero, new-hours, new-open, marked-run, closed-zero}
 
 pub begins-at-zero : BeginsAtZero
-begins-at-zero n t d e = let (k, q) = opened-by n t d e in (open-table n t k, λ zone. rw q (new-hours zone n))
+begins-at-zero n len t d e = let (k, q) = opened-by n len t d e in (open-table n len t k, λ zone. rw q (new-hours zone n len))
+
+pub length-kept : LengthKept
+unfolding opened newDay hoursOfDay
+length-kept n len t d e =
+    let (k, q) = opened-by n len t d e in
+    (length-of len (open-length n len t k), λ calls. length-run (opened d n len t) calls ∙ ap hoursOfDay q)
 
 pub accepted-if-fit : AcceptedIfFit
 accepted-if-fit = (
@@ -43,22 +49,22 @@ accepted-if-fit = (
 
 pub conservation : Conservation
 unfolding opened users newDay
-conservation n t d e calls zone z user h =
-    let (k, q) = opened-by n t d e in
+conservation n len t d e calls zone z user h =
+    let (k, q) = opened-by n len t d e in
     let zoned = zone-of zone z in
     let few : user < users d = subst (λ (d : Day). user < users d) (sym q) h in
-    sym (+ℤ-idr (firstSum zone user (opened d n t) calls))
-    ∙ ap (λ (p : ℤ). firstSum zone user (opened d n t) calls +ℤ p) (sym (open-zero n t k zoned user (omega (arith, open-users n t k))))
-    ∙ balance zone user zoned (opened d n t) calls few
+    sym (+ℤ-idr (firstSum zone user (opened d n len t) calls))
+    ∙ ap (λ (p : ℤ). firstSum zone user (opened d n len t) calls +ℤ p) (sym (open-zero n len t k zoned user (omega (arith, open-users n len t k))))
+    ∙ balance zone user zoned (opened d n len t) calls few
 
 pub closed-is-zero : ClosedIsZero
 closed-is-zero s calls zone z c p h = closed-zero zone (zone-of zone z) s calls c p h
 
 pub closed-is-marked : ClosedIsMarked
 unfolding opened newDay isClosed zoneDay
-closed-is-marked n t d e calls zone z =
-    marked-run zone (zone-of zone z) (opened d n t) calls
-    ∙ ap (λ (b : Bool). b || closes zone (opened d n t) calls) (ap (isClosed zone) (opened-by n t d e .1) ∙ new-open zone n)
+closed-is-marked n len t d e calls zone z =
+    marked-run zone (zone-of zone z) (opened d n len t) calls
+    ∙ ap (λ (b : Bool). b || closes zone (opened d n len t) calls) (ap (isClosed zone) (opened-by n len t d e .1) ∙ new-open zone n len)
 
 pub accuracy : Accuracy
 unfolding hourImbalance hourQuantity beforeFit

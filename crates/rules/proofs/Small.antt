@@ -5,6 +5,7 @@ use mathlib.Core.List.{List}
 use Prim.Native.Nat.{ℕ, zero-le, _≤_}
 use native.Mathlib.Omega.{arith}
 use native.Mathlib.Nat.{le-refl}
+use lib.Dec.{lit≤}
 use lib.IntN.{ℤ, pos, natAbs, negℤ}
 use Rattle.integers.specs.Ranges.{inRange}
 use Rattle.integers.specs.Lists.{every, AtMost}
@@ -13,6 +14,9 @@ use Rattle.integers.proofs.Sizes.{size-neg}
 use Rattle.integers.proofs.Tests.{and-true, range-size}
 use Rattle.rules.specs.declared.HourTerms.{HourTerms}
 use Rattle.rules.specs.Limits.{
+  lengthLeast,
+  lengthMost,
+  lengthFit,
   entryMost,
   exitMost,
   titleMost,
@@ -40,6 +44,11 @@ above n x e = range-size n (pos 0) (pos n) x zero-le (le-refl n) e
 
 below : (n : ℕ) (x : ℤ) → inRange (negℤ (pos n)) (pos 0) x ≡ true → natAbs x ≤ n
 below n x e = range-size n (negℤ (pos n)) (pos 0) x (omega (arith, size-neg (pos n))) zero-le e
+
+-- ---- the length of a day
+pub length-small : (hours : ℤ) → lengthFit hours ≡ true → natAbs hours ≤ lengthMost
+unfolding lengthFit
+length-small hours e = range-size lengthMost (pos lengthLeast) (pos lengthMost) hours (lit≤ tt) (le-refl lengthMost) e
 
 -- ---- positions and amounts
 pub position-small : (kwh : ℤ) → positionFit kwh ≡ true → natAbs kwh ≤ positionMost

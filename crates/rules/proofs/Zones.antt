@@ -82,16 +82,19 @@ getD-onto xs p i h = List·getD-append xs (drop (length xs) p) (pos 0) i h
 
 -- ---- the record
 
--- the user count stays
-pub users-kept : (z : ℤ) (f : ZoneDay → ZoneDay) (d : Day) → withZoneDay z f d .users ≡ d .users
+-- what holds of both holds of the one that is chosen
+pub of-both : {A : Type 0} (P : A → Type 0) (b : Bool) {x y : A} → P x → P y → P (cond b x y)
+of-both P true h l = h
+of-both P false h l = l
+
+-- what a call leaves of the record besides the zones' parts: the user count and the length stay
+pub record Keeps (e d : Day) : Type 0 where
+  pub users : e .users ≡ d .users
+  pub length : e .length ≡ d .length
+
+pub zone-keeps : (z : ℤ) (f : ZoneDay → ZoneDay) (d : Day) → Keeps (withZoneDay z f d) d
 unfolding withZoneDay
-users-kept z f d = go (isZero z)
-  where
-    go : (b : Bool)
-        → (cond {A = Day} b (record { users = d .users; h = f (d .h); l = d .l }) (record { users = d .users; h = d .h; l = f (d .l) })) .users
-        ≡ d .users
-    go true = refl
-    go false = refl
+zone-keeps z f d = of-both (λ (e : Day). Keeps e d) (isZero z) (record { users = refl; length = refl }) (record { users = refl; length = refl })
 
 -- an hour leaves the marks of both zones, and a closing marks its zone
 pub closed-hour : (y z : ℤ) (d : Day) → Zone y → Zone z → isClosed y (dayAfterHour z d) ≡ isClosed y d

@@ -20,11 +20,11 @@ use Rattle.rules.specs.Market.{Imbalance, imbalance, quantities, after, 
 use Rattle.rules.specs.Causes.{openCause, thresholdsCause, hourCause, closingCause}
 
 -- ---- opening: "sets all 256 places to zero and answers a record with no hours done and no zone closed"
-unfoldable pub openAnswer : ℤ → List ℤ → OpenAnswer
-openAnswer n t = byCause (openCause n t) (Opened (newDay n)) (OpenRefused (openCause n t))
+unfoldable pub openAnswer : ℤ → ℤ → List ℤ → OpenAnswer
+openAnswer n len t = byCause (openCause n len t) (Opened (newDay n len)) (OpenRefused (openCause n len t))
 
-unfoldable pub openTable : ℤ → List ℤ → List ℤ
-openTable n t = byCause (openCause n t) (replicate 256 (pos 0)) t
+unfoldable pub openTable : ℤ → ℤ → List ℤ → List ℤ
+openTable n len t = byCause (openCause n len t) (replicate 256 (pos 0)) t
 
 -- ---- default thresholds
 unfoldable pub thresholdsAnswer : ℤ → ℤ → ThresholdsAnswer

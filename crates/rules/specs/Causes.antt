@@ -1,4 +1,5 @@
--- "Causes for turning a call away": each a test that holds where its cause does not apply; then the first cause of each call. Assumes nothing.
+-- "Causes for turning a call away": each a test that holds where its cause does not apply; then the first cause of each call. For 24 in the words of document 01 stands the length of the
+-- day, by document 02: "Causes 2 and 6 read that length in the place of 24, for both zones." Assumes nothing.
 use mathlib.Core.Bool.{Bool, not, _&&_, _||_}
 use mathlib.Core.List.{List}
 use Prim.Native.Nat.{ℕ}
@@ -11,17 +12,17 @@ use Rattle.integers.specs.Lists.{sumℤ, every}
 use Rattle.rules.specs.declared.Day.{Day}
 use Rattle.rules.specs.declared.HourTerms.{HourTerms}
 use Rattle.rules.specs.declared.ClosingTerms.{ClosingTerms}
-use Rattle.rules.specs.Limits.{usersFit, zoneFit, entryFit, exitFit, titleFit, poolingFit, positionFit, upperFit, lowerFit, priceFit, monthFit}
+use Rattle.rules.specs.Limits.{usersFit, lengthFit, zoneFit, entryFit, exitFit, titleFit, poolingFit, positionFit, upperFit, lowerFit, priceFit, monthFit}
 use Rattle.rules.specs.Days.{users, hoursOfDay, hoursDone, isClosed, part}
 use Rattle.rules.specs.Hours.{Hour, Closing, before}
 use Rattle.rules.specs.Refusals.{unless, _then_}
 
--- ---- 2: "record's user count not 1 to 128, hours not 0 to 24, or a zone closed with fewer than 24"
+-- ---- 2: "record's user count not 1 to 128, hours not 0 to 24, or a zone closed with fewer than 24"; document 02: "cause 2 also covers a record with another length"
 unfoldable pub zoneDayFit : ℤ → Day → Bool
 zoneDayFit zone d = inRange (pos 0) (hoursOfDay d) (hoursDone zone d) && (not (isClosed zone d) || leZ (hoursOfDay d) (hoursDone zone d))
 
 unfoldable pub dayFit : Day → Bool
-dayFit d = usersFit (d .users) && (zoneDayFit (pos 0) d && zoneDayFit (pos 1) d)
+dayFit d = usersFit (d .users) && (lengthFit (hoursOfDay d) && (zoneDayFit (pos 0) d && zoneDayFit (pos 1) d))
 
 -- ---- 3: "table not of 256 places, or a list or the scratch not of exactly the user count"
 unfoldable pub tableLong : List ℤ → Bool
@@ -92,9 +93,12 @@ beforeFit d t g = every positionFit (before d t g)
 
 -- ---- the first cause of each call; 0 for none
 
--- "Opening uses 1 and 3": 1 is "user count not 1 to 128"
-unfoldable pub openCause : ℤ → List ℤ → ℕ
-openCause n t = unless (usersFit n) 1 then unless (tableLong t) 3
+-- "Opening uses 1 and 3": 1 is "user count not 1 to 128"; document 02: "21 at opening, after 1 and before 3, if the length is none of these"
+unfoldable pub openCause : ℤ → ℤ → List ℤ → ℕ
+openCause n len t =
+    unless (usersFit n) 1
+    then unless (lengthFit len) 21
+    then unless (tableLong t) 3
 
 -- "thresholds 4 and 8"
 unfoldable pub thresholdsCause : ℤ → ℤ → ℕ

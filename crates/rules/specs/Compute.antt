@@ -5,8 +5,8 @@ use mathlib.Core.List.{zipWith}
 use Rattle.integers.specs.Ranges.{natural}
 use Rattle.integers.specs.Lists.{sum, sumℤ, every, count, tabulate}
 use Rattle.largest_remainder.specs.Rule.{whole, fraction, spare, rank, settledAt, settled}
-use Rattle.rules.specs.Limits.{usersFit, zoneFit, entryFit, exitFit, titleFit, poolingFit, positionFit, upperFit}
-use Rattle.rules.specs.Limits.{lowerFit, priceFit, monthFit}
+use Rattle.rules.specs.Limits.{usersFit, lengthFit, zoneFit, entryFit, exitFit, titleFit, poolingFit, positionFit}
+use Rattle.rules.specs.Limits.{upperFit, lowerFit, priceFit, monthFit}
 use Rattle.rules.specs.Days.{users, hoursOfDay, zoneDay, hoursDone, isClosed, withZoneDay, newDay, hourMore}
 use Rattle.rules.specs.Days.{dayAfterHour, closedNow, dayAfterClosing, firstPlace, part, place, withPart, onto}
 use Rattle.rules.specs.Thresholds.{upperGwh, upperDefault, lowerDefault}
@@ -31,8 +31,8 @@ unfolding
     natural
     sum sumℤ every count tabulate
     whole fraction spare rank settledAt settled
-    usersFit zoneFit entryFit exitFit titleFit poolingFit positionFit upperFit
-    lowerFit priceFit monthFit
+    usersFit lengthFit zoneFit entryFit exitFit titleFit poolingFit positionFit
+    upperFit lowerFit priceFit monthFit
     users hoursOfDay zoneDay hoursDone isClosed withZoneDay newDay hourMore
     dayAfterHour closedNow dayAfterClosing firstPlace part place withPart onto
     upperGwh upperDefault lowerDefault

@@ -1,4 +1,4 @@
--- "The table and the day record". Assumes nothing.
+-- "The table and the day record" of document 01, with the day's length of document 02. Assumes nothing.
 use mathlib.Core.Bool.{Bool, true, false, cond}
 use mathlib.Core.List.{List, _++_}
 use Prim.Native.Nat.{ℕ, _+_}
@@ -14,12 +14,9 @@ use Rattle.rules.specs.declared.ZoneDay.{ZoneDay}
 unfoldable pub users : Day → ℕ
 users d = natural (d .users)
 
--- "A Gas Day has 24 hours."
-abbrev pub hoursMost : ℕ
-hoursMost = 24
-
+-- "A Gas Day has 24 hours.", and document 02: "Opening must be told 23, 24 or 25 and the day record keeps it."
 unfoldable pub hoursOfDay : Day → ℤ
-hoursOfDay d = pos hoursMost
+hoursOfDay d = d .length
 
 -- "for each zone, the hours done (0 to 24) and whether it is closed": 0 is H, 1 is L
 unfoldable pub zoneDay : ℤ → Day → ZoneDay
@@ -35,12 +32,12 @@ isClosed zone d = zoneDay zone d .closed
 unfoldable pub withZoneDay : ℤ → (ZoneDay → ZoneDay) → Day → Day
 withZoneDay zone f d =
     cond (isZero zone)
-    (record { users = d .users; h = f (d .h); l = d .l })
-    (record { users = d .users; h = d .h; l = f (d .l) })
+    (record { users = d .users; length = d .length; h = f (d .h); l = d .l })
+    (record { users = d .users; length = d .length; h = d .h; l = f (d .l) })
 
--- opening answers "a record with no hours done and no zone closed"
-unfoldable pub newDay : ℤ → Day
-newDay n = record { users = n; h = record { hours = pos 0; closed = false }; l = record { hours = pos 0; closed = false } }
+-- opening answers "a record with no hours done and no zone closed", of so many users and of the length that it was told
+unfoldable pub newDay : ℤ → ℤ → Day
+newDay n len = record { users = n; length = len; h = record { hours = pos 0; closed = false }; l = record { hours = pos 0; closed = false } }
 
 -- an hour: "The record has one hour more for that zone and is otherwise the same."
 unfoldable pub hourMore : ZoneDay → ZoneDay

@@ -3,7 +3,7 @@
 use mathlib.Core.Path.{_≡_}
 use mathlib.Core.Bool.{Bool, true, false, cond}
 use mathlib.Core.List.{List, map}
-use mathlib.Core.Logic.{_↔_}
+use mathlib.Core.Logic.{_↔_, _⊎_}
 use Prim.Native.Nat.{ℕ, _+_, _-_, _*_, _/_, _%_, _^_, _<_}
 use lib.Dec.{eqb, ltb}
 use lib.IntN.{ℤ, pos, natAbs, _+ℤ_, _-ℤ_}
@@ -20,7 +20,7 @@ use Rattle.rules.specs.declared.HourAnswer.the-variants.{Done}
 use Rattle.rules.specs.declared.Outcome.{Outcome}
 use Rattle.rules.specs.declared.Outcome.the-variants.{Within, Settled}
 use Rattle.rules.specs.Limits.{zoneFit, positionFit}
-use Rattle.rules.specs.Days.{users, hoursDone, isClosed, part, place}
+use Rattle.rules.specs.Days.{users, hoursOfDay, hoursDone, isClosed, part, place}
 use Rattle.rules.specs.Hours.{Hour, Closing, before}
 use Rattle.rules.specs.Causes.{dayFit, hourLong, closingLong, zoneOpen, hourNext, allDone, tableFit, pricesFit, termsFit, amountsFit, poolingAdds, beforeFit}
 use Rattle.rules.specs.Market.{Imbalance, total, caused, sizes, settledSizes, signed}
@@ -30,8 +30,17 @@ use Rattle.rules.specs.History.{State, Call, opened, run, firstSum, seco
 -- ---- the opening: "The Gas Day shall be shown to begin at zero, not supposed to."
 abbrev pub BeginsAtZero : Type 0
 BeginsAtZero =
-    (n : ℤ) (t : List ℤ) (d : Day) → openAnswer n t ≡ Opened d
-    → (openTable n t ≡ replicate 256 (pos 0)) × ((zone : ℤ) → hoursDone zone d ≡ pos 0)
+    (n len : ℤ) (t : List ℤ) (d : Day) → openAnswer n len t ≡ Opened d
+    → (openTable n len t ≡ replicate 256 (pos 0)) × ((zone : ℤ) → hoursDone zone d ≡ pos 0)
+
+-- ---- the length: "Opening must be told 23, 24 or 25 and the day record keeps it."
+
+-- A day that opening opened is of one of these lengths, and whatever is then called, its record keeps it.
+abbrev pub LengthKept : Type 0
+LengthKept =
+    (n len : ℤ) (t : List ℤ) (d : Day) → openAnswer n len t ≡ Opened d
+    → ((len ≡ pos 23) ⊎ ((len ≡ pos 24) ⊎ (len ≡ pos 25)))
+    × ((calls : List Call) → hoursOfDay (run (opened d n len t) calls .day) ≡ len)
 
 -- ---- demand 2: "an hour or closing is accepted if and only if no listed cause exists"
 
@@ -65,12 +74,14 @@ AcceptedIfFit =
 
 -- ---- demand 3: "no kilowatt-hour has appeared or vanished at the list's end"
 
--- On a day that opening opened, whatever is then called, for each zone and user: "At the end the first equals the second plus the user's place in the zone's part of the table."
+-- On a day that opening opened, whatever is then called, for each zone and user: "At the end the first equals the second plus the user's place in the zone's part of the table." It is
+-- "shown once for all lengths": of whatever length the opening was told.
 abbrev pub Conservation : Type 0
 Conservation =
-    (n : ℤ) (t : List ℤ) (d : Day) → openAnswer n t ≡ Opened d
+    (n len : ℤ) (t : List ℤ) (d : Day) → openAnswer n len t ≡ Opened d
     → (calls : List Call) (zone : ℤ) → zoneFit zone ≡ true → (user : ℕ) → user < natural n
-    → firstSum zone user (opened d n t) calls ≡ secondSum zone user (opened d n t) calls +ℤ place zone user (run (opened d n t) calls .table)
+    → firstSum zone user (opened d n len t) calls
+    ≡ secondSum zone user (opened d n len t) calls +ℤ place zone user (run (opened d n len t) calls .table)
 
 -- ---- "a zone whose closing was accepted holds zero in every place"
 
@@ -83,8 +94,8 @@ ClosedIsZero =
 -- "no zone closed" at the opening, and then "the zone is marked closed": on a day that opening opened, the record marks a zone closed exactly where its closing was accepted.
 abbrev pub ClosedIsMarked : Type 0
 ClosedIsMarked =
-    (n : ℤ) (t : List ℤ) (d : Day) → openAnswer n t ≡ Opened d
-    → (calls : List Call) (zone : ℤ) → zoneFit zone ≡ true → isClosed zone (run (opened d n t) calls .day) ≡ closes zone (opened d n t) calls
+    (n len : ℤ) (t : List ℤ) (d : Day) → openAnswer n len t ≡ Opened d
+    → (calls : List Call) (zone : ℤ) → zoneFit zone ≡ true → isClosed zone (run (opened d n len t) calls .day) ≡ closes zone (opened d n len t) calls
 
 -- ---- "Whatever record and table an hour is given, once it is accepted the market after it is neither above the upper nor below the lower of that hour's thresholds, a user who did
 -- not cause has quantity 0, and each who did is settled by rules 4 and 5 of document 01, with a settled size less than 1 kWh from the exact share."

@@ -19,9 +19,9 @@ pub record State : Type 0 where
   pub day : Day
   pub table : List ℤ
 
--- the record d that opening answered for n users, and the table as opening left it
-unfoldable pub opened : Day → ℤ → List ℤ → State
-opened d n t = record { day = d; table = openTable n t }
+-- the record d that opening answered for n users and a day of this length, and the table as opening left it
+unfoldable pub opened : Day → ℤ → ℤ → List ℤ → State
+opened d n len t = record { day = d; table = openTable n len t }
 
 unfoldable pub step : State → Call → State
 step s (hour g) = record { day = hourDay (hourAnswer (s .day) (s .table) g); table = hourTable (s .day) (s .table) g }

@@ -1,4 +1,5 @@
--- "Quantities and their ranges": the limits of document 01, each once, by the kind of amount that it bounds. `most` is the size that a range goes to. Assumes nothing.
+-- "Quantities and their ranges": the limits of document 01, each once, by the kind of amount that it bounds; and the lengths of a day, from document 02. `most` is the size that a range
+-- goes to. Assumes nothing.
 use mathlib.Core.Bool.{Bool}
 use Prim.Native.Nat.{ℕ, _*_}
 use lib.IntN.{ℤ, pos, negℤ}
@@ -10,6 +11,20 @@ usersMost = 128
 
 unfoldable pub usersFit : ℤ → Bool
 usersFit users = inRange (pos 1) (pos usersMost) users
+
+-- document 02: "Opening must be told 23, 24 or 25"
+abbrev pub lengthLeast : ℕ
+lengthLeast = 23
+
+abbrev pub lengthMost : ℕ
+lengthMost = 25
+
+unfoldable pub lengthFit : ℤ → Bool
+lengthFit hours = inRange (pos lengthLeast) (pos lengthMost) hours
+
+-- document 02: "The cases and the program have length 24."
+abbrev pub lengthUsual : ℕ
+lengthUsual = 24
 
 -- "Zones: 0 is H, 1 is L."
 unfoldable pub zoneFit : ℤ → Bool

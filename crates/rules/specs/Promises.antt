@@ -10,9 +10,9 @@ use Rattle.rules.specs.declared.ClosingAnswer.{ClosingAnswer}
 use Rattle.rules.specs.Hours.{Hour, Closing}
 use Rattle.rules.specs.Answers.{openAnswer, openTable, hourAnswer, hourTable, hourQuantity, hourMoney, hourScratch, closingAnswer, closingTable, closingQuantity, closingMoney}
 
-pub record OpenPromise (n : ℤ) (t t' : List ℤ) (r : OpenAnswer) : Type 0 where
-  pub answer : r ≡ openAnswer n t
-  pub table : t' ≡ openTable n t
+pub record OpenPromise (n len : ℤ) (t t' : List ℤ) (r : OpenAnswer) : Type 0 where
+  pub answer : r ≡ openAnswer n len t
+  pub table : t' ≡ openTable n len t
 
 pub record HourPromise (d : Day) (t : List ℤ) (g : Hour) (t' q' m' : List ℤ) (s' : List ℕ) (r : HourAnswer) : Type 0 where
   pub answer : r ≡ hourAnswer d t g

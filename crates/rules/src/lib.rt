@@ -6,9 +6,10 @@ pub struct ZoneDay {
     pub closed: bool,
 }
 
-// The day record, which goes in by value and comes back by value.
+// The day record, which goes in by value and comes back by value. Its length is the number of hours that the day has.
 pub struct Day {
     pub users: i64,
+    pub length: i64,
     pub h: ZoneDay,
     pub l: ZoneDay,
 }
@@ -18,7 +19,12 @@ impl Day {
 
     pub const USERS_MOST: i64 = 128;
 
-    pub const HOURS: i64 = 24;
+    // The hours of a day: the least and the most are those of the two clock-change days.
+    pub const LENGTH_LEAST: i64 = 23;
+
+    pub const LENGTH_USUAL: i64 = 24;
+
+    pub const LENGTH_MOST: i64 = 25;
 }
 
 // A refusal: the number of its cause, and the same record.

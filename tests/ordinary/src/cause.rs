@@ -3,7 +3,8 @@
 /// Opening: user count not 1 to 128.
 pub const OPENING_USERS: u64 = 1;
 /// Record's user count not 1 to 128, hours not 0 to 24, or a zone closed with
-/// fewer than 24.
+/// fewer than 24. Ask 3: "Causes 2 and 6 read that length in the place of 24, for both
+/// zones", and "cause 2 also covers a record with another length".
 pub const RECORD: u64 = 2;
 /// Table not of 256 places, or a list or the scratch not of exactly the user count.
 pub const LENGTH: u64 = 3;
@@ -11,7 +12,8 @@ pub const LENGTH: u64 = 3;
 pub const ZONE: u64 = 4;
 /// Zone closed.
 pub const CLOSED: u64 = 5;
-/// Hour is not hours done plus 1, or above 24; at closing, hours done below 24.
+/// Hour is not hours done plus 1, or above 24; at closing, hours done below 24. Ask 3:
+/// "Causes 2 and 6 read that length in the place of 24, for both zones."
 pub const HOUR: u64 = 6;
 /// Table holds a position outside its range, a non-zero place at or beyond the
 /// user count in either zone, or a non-zero place in a zone that is closed or has
@@ -44,3 +46,5 @@ pub const WRITER_COUNT: u64 = 18;
 pub const WRITER_NUMBER: u64 = 19;
 /// The lent bytes are too few.
 pub const WRITER_ROOM: u64 = 20;
+/// At opening, after 1 and before 3: the length is none of these, "23, 24 or 25".
+pub const OPENING_LENGTH: u64 = 21;

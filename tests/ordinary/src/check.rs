@@ -19,13 +19,15 @@ pub(crate) fn all_in(values: &[i64], range: &RangeInclusive<i64>) -> bool {
 }
 
 /// Cause 2: "record's user count not 1 to 128, hours not 0 to 24, or a zone closed
-/// with fewer than 24"; and whether a zone is closed not 0 or 1. Looks at both zones
-/// and answers the user count.
+/// with fewer than 24"; and whether a zone is closed not 0 or 1. Ask 3: "Causes 2 and 6
+/// read that length in the place of 24, for both zones", and "cause 2 also covers a
+/// record with another length". Looks at both zones and answers the user count.
 pub(crate) fn record(day: &Day) -> Result<usize, u64> {
     let fits = limits::USERS.contains(&day.users)
-        && all_in(&day.hours, &(0..=limits::HOURS))
+        && limits::LENGTHS.contains(&day.length)
+        && all_in(&day.hours, &(0..=day.length))
         && all_in(&day.closed, &(0..=1))
-        && (0..2).all(|zone| !day.is_closed(zone) || day.hours[zone] == limits::HOURS);
+        && (0..2).all(|zone| !day.is_closed(zone) || day.hours[zone] == day.length);
     require(fits, cause::RECORD)?;
     Ok(day.users as usize)
 }

@@ -5,7 +5,9 @@ use crate::{cause, check, limits, Day};
 /// Closes a zone. "After 24 hours a zone may be closed. Each user's quantity is its
 /// whole position, at the day's excess price if positive and its shortfall price if
 /// negative. The places become zero and the zone is marked closed. [...] The answer
-/// gives two sums, sold and bought, in kWh and both as sizes." Causes 2 to 8.
+/// gives two sums, sold and bought, in kWh and both as sizes." Causes 2 to 8; of them,
+/// by Ask 3, "Causes 2 and 6 read that length in the place of 24, for both zones", so
+/// that a zone may be closed after the 23, 24 or 25 hours of the record's day.
 pub fn close_zone(
     day: Day,
     table: &mut [i64],
@@ -19,7 +21,7 @@ pub fn close_zone(
     check::lengths(table, &[quantity.len(), money.len()], users)?;
     let zone = check::zone(zone)?;
     check::require(!day.is_closed(zone), cause::CLOSED)?;
-    check::require(day.hours[zone] == limits::HOURS, cause::HOUR)?;
+    check::require(day.hours[zone] == day.length, cause::HOUR)?;
     check::table(&day, table)?;
     let prices_fit = check::all_in(&[excess_price, shortfall_price], &limits::PRICE);
     check::require(prices_fit, cause::TERMS)?;

@@ -58,7 +58,7 @@ struct Amounts<'a> {
 /// "The quantity list and the money list get one number per user, and the users'
 /// places in the zone's part of the table get the positions after. The accepted call
 /// sets its scratch (one unsigned 64-bit place per user) to zero. The record has one
-/// hour more for that zone and is otherwise the same."
+/// hour more for that zone and is otherwise the same." So it keeps its length.
 #[allow(clippy::too_many_arguments)]
 pub fn settle_hour(
     day: Day,
@@ -87,7 +87,7 @@ pub fn settle_hour(
     check::lengths(table, &lists, users)?;
     let zone = check::zone(zone)?;
     check::require(!day.is_closed(zone), cause::CLOSED)?;
-    check_hour(day.hours[zone], hour)?;
+    check_hour(&day, zone, hour)?;
     check::table(&day, table)?;
     check_terms(&terms)?;
     let amounts = Amounts {
@@ -113,9 +113,11 @@ pub fn settle_hour(
     Ok((after, outcome))
 }
 
-/// Cause 6: "hour is not hours done plus 1, or above 24".
-fn check_hour(done: i64, hour: i64) -> Result<(), u64> {
-    check::require(hour == done + 1 && hour <= limits::HOURS, cause::HOUR)
+/// Cause 6: "hour is not hours done plus 1, or above 24". Ask 3: "Causes 2 and 6 read
+/// that length in the place of 24, for both zones."
+fn check_hour(day: &Day, zone: usize, hour: i64) -> Result<(), u64> {
+    let fits = hour == day.hours[zone] + 1 && hour <= day.length;
+    check::require(fits, cause::HOUR)
 }
 
 /// Cause 8: "threshold or price out of range".

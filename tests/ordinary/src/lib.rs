@@ -2,13 +2,13 @@
 //! thresholds, and the reader and the writer of an hour's allocation file.
 //!
 //! An ordinary program, written from the requirements paper ("The Gas Day:
-//! allocations, positions and settlement"), the writer and amounts in MWh from its
-//! change requests, and from nothing else.
+//! allocations, positions and settlement"), the writer, amounts in MWh and days of
+//! 23 and 25 hours from its change requests (Asks 1 to 3), and from nothing else.
 //!
 //! Every call either is accepted or answers a cause (see [`cause`]). "Checked in
-//! the order of their numbers; the first that applies is given." A refused call
-//! leaves everything lent as it was; the record is `Copy`, so that the caller
-//! still has the same one.
+//! the order of their numbers; the first that applies is given." Only 21 comes "at
+//! opening, after 1 and before 3". A refused call leaves everything lent as it was;
+//! the record is `Copy`, so that the caller still has the same one.
 
 #![forbid(unsafe_code)]
 #![warn(missing_docs)]

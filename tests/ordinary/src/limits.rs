@@ -9,8 +9,9 @@ pub const PLACES: usize = 128;
 /// "The lent position table has 256 places: 128 for the H zone, then 128 for the
 /// L zone."
 pub const TABLE: usize = 2 * PLACES;
-/// "A Gas Day has 24 hours."
-pub const HOURS: i64 = 24;
+/// Document 01: "A Gas Day has 24 hours." Ask 3: "Opening must be told 23, 24 or 25 and
+/// the day record keeps it."
+pub const LENGTHS: RangeInclusive<i64> = 23..=25;
 /// "Entry (EEA): 0 to 50,000,000."
 pub const ENTRY: RangeInclusive<i64> = 0..=50_000_000;
 /// "Exit (XEA): -50,000,000 to 0."

@@ -59,18 +59,20 @@ const POOLED: i64 = 50_000_000;
 /// Sizes of positions to choose from.
 const SCALES: [i64; 7] = [1, 3, 10, 1_000, 1_000_000, 50_000_000, 100_000_000];
 
-/// A fit record in the middle of a day, and a table fit for it.
+/// A fit record in the middle of a day of any length, and a table fit for it.
 pub fn day(random: &mut Random, users: usize) -> (Day, Vec<i64>) {
+    let length = random.between(*limits::LENGTHS.start(), *limits::LENGTHS.end());
     let mut day = Day {
         users: users as i64,
+        length,
         hours: [0; 2],
         closed: [0; 2],
     };
     let mut table = vec![0; limits::TABLE];
     for (zone, part) in table.chunks_exact_mut(limits::PLACES).enumerate() {
-        let any = random.between(0, limits::HOURS);
-        day.hours[zone] = random.pick([0, limits::HOURS, any, any]);
-        day.closed[zone] = i64::from(day.hours[zone] == limits::HOURS && random.one_in(3));
+        let any = random.between(0, length);
+        day.hours[zone] = random.pick([0, length - 1, length, any, any]);
+        day.closed[zone] = i64::from(day.hours[zone] == length && random.one_in(3));
         if day.hours[zone] > 0 && !day.is_closed(zone) {
             let scale = random.pick(SCALES);
             for place in part.iter_mut().take(users) {

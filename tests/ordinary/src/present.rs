@@ -2,7 +2,8 @@
 //! tell that a call which was spoilt in two ways is refusable for both.
 //!
 //! A cause that speaks of the zone is taken to apply where the zone is not 0 or 1 if it
-//! applies to both; and where lengths differ, a user lacks what is not there.
+//! applies to both; where lengths differ, a user lacks what is not there; and cause 6 reads
+//! the record's length as it is, also one that a day cannot have.
 
 use crate::limits;
 use crate::spoilt::Call;
@@ -26,7 +27,7 @@ pub fn hour_causes(call: &Call) -> Vec<u64> {
         !zone_is_one(call),
         of_zone(call, |zone| call.day.is_closed(zone)),
         of_zone(call, |zone| {
-            call.hour > limits::HOURS || call.hour.checked_sub(1) != Some(call.day.hours[zone])
+            call.hour > call.day.length || call.hour.checked_sub(1) != Some(call.day.hours[zone])
         }),
         table(call),
         prices(call)
@@ -46,7 +47,7 @@ pub fn closing_causes(call: &Call) -> Vec<u64> {
         lengths(call, &[call.quantity.len(), call.money.len()]),
         !zone_is_one(call),
         of_zone(call, |zone| call.day.is_closed(zone)),
-        of_zone(call, |zone| call.day.hours[zone] < limits::HOURS),
+        of_zone(call, |zone| call.day.hours[zone] < call.day.length),
         table(call),
         prices(call),
     ];
@@ -78,9 +79,15 @@ fn numbered_from(first: u64, applies: &[bool]) -> Vec<u64> {
 }
 
 fn record(call: &Call) -> bool {
+    let last = match call.day.length {
+        23 => 23,
+        24 => 24,
+        25 => 25,
+        _ => return true,
+    };
     let zone_fits = |zone: usize| {
         let hours = call.day.hours[zone];
-        (0..=24).contains(&hours) && (0..=1).contains(&call.day.closed[zone]) && (hours == 24 || !call.day.is_closed(zone))
+        (0..=last).contains(&hours) && (0..=1).contains(&call.day.closed[zone]) && (hours == last || !call.day.is_closed(zone))
     };
     !limits::USERS.contains(&call.day.users) || !zone_fits(0) || !zone_fits(1)
 }

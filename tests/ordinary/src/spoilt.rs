@@ -97,13 +97,15 @@ const fn way(cause: u64, part: &'static str, spoil: fn(&mut Random, &mut Call)) 
 }
 
 /// Of the causes that hours and closings share.
-const SHARED: [Way; 23] = [
+const SHARED: [Way; 25] = [
     way(2, "users below 1", |r, call| call.day.users = r.pick([0, -1, -128, i64::MIN])),
     way(2, "users above 128", |r, call| call.day.users = r.pick([129, 256, 1 << 32, i64::MAX])),
+    way(2, "length below 23", |r, call| set_length(r, call, [22, 22, 0, -1, -24, i64::MIN])),
+    way(2, "length above 25", |r, call| set_length(r, call, [26, 26, 48, 256 + 24, (1 << 32) + 24, i64::MAX])),
     way(2, "hours of H below 0", |r, call| call.day.hours[0] = r.pick([-1, -24, i64::MIN])),
-    way(2, "hours of H above 24", |r, call| call.day.hours[0] = r.pick([25, 256, i64::MAX])),
+    way(2, "hours of H above the length", |r, call| call.day.hours[0] = above_length(r, call)),
     way(2, "hours of L below 0", |r, call| call.day.hours[1] = r.pick([-1, -24, i64::MIN])),
-    way(2, "hours of L above 24", |r, call| call.day.hours[1] = r.pick([25, 256, i64::MAX])),
+    way(2, "hours of L above the length", |r, call| call.day.hours[1] = above_length(r, call)),
     way(2, "H closed too early", |r, call| close_early(r, call, 0)),
     way(2, "L closed too early", |r, call| close_early(r, call, 1)),
     way(2, "mark of H neither 0 nor 1", |r, call| call.day.closed[0] = r.pick([2, 3, 256, -1, i64::MIN])),
@@ -125,8 +127,8 @@ const SHARED: [Way; 23] = [
 
 /// Of the causes that hours and closings share, in the zone that is not called.
 const OTHER_ZONE: [Way; 2] = [
-    way(7, "other zone closed", |r, call| fill_idle(r, call, 1 - call.zone, limits::HOURS)),
-    way(7, "other zone with no hours done", |r, call| fill_idle(r, call, 1 - call.zone, 0)),
+    way(7, "other zone closed", |r, call| fill_idle(r, call, 1 - call.zone, true)),
+    way(7, "other zone with no hours done", |r, call| fill_idle(r, call, 1 - call.zone, false)),
 ];
 
 /// Prices, for both; the hour's thresholds.
@@ -144,13 +146,17 @@ const HOUR: [Way; 28] = [
     way(3, "title list", |r, call| resize(r, &mut call.amounts.title)),
     way(3, "pooling list", |r, call| resize(r, &mut call.amounts.pooling)),
     way(3, "scratch", |r, call| resize(r, &mut call.scratch)),
-    way(6, "hour too low", |r, call| call.hour = r.pick([call.hour - 1, 0, -1, i64::MIN])),
-    way(6, "hour too high", |r, call| call.hour = r.pick([call.hour + 1, call.hour + 256, call.hour + (1 << 32), i64::MAX])),
-    way(6, "hour 25", |_, call| {
-        call.hour = 25;
-        called(call).into_iter().for_each(|zone| call.day.hours[zone] = limits::HOURS);
+    way(6, "hour too low", |r, call| call.hour = r.pick([call.hour.saturating_sub(1), 0, -1, i64::MIN])),
+    way(6, "hour too high", |r, call| {
+        let more = r.pick([1, 256, 1 << 32, i64::MAX]);
+        call.hour = call.hour.saturating_add(more);
     }),
-    way(7, "zone with no hours done", |r, call| fill_idle(r, call, call.zone, 0)),
+    way(6, "hour above the length", |_, call| {
+        let length = call.day.length;
+        call.hour = length.saturating_add(1);
+        called(call).into_iter().for_each(|zone| call.day.hours[zone] = length);
+    }),
+    way(7, "zone with no hours done", |r, call| fill_idle(r, call, call.zone, false)),
     way(8, "upper threshold above", |r, call| call.amounts.terms.upper = odd_beyond(r, limits::UPPER, 1)),
     way(8, "upper threshold below", |r, call| call.amounts.terms.upper = odd_beyond(r, limits::UPPER, -1)),
     way(8, "lower threshold above", |r, call| call.amounts.terms.lower = odd_beyond(r, limits::LOWER, 1)),
@@ -181,8 +187,8 @@ const CLOSING: [Way; 2] = [
         called(call).into_iter().for_each(|zone| call.day.hours[zone] = 0);
         part(call, call.zone).fill(0);
     }),
-    way(6, "fewer than 24 hours done", |r, call| {
-        let hours = r.pick([1, 12, 22, 23, 23]);
+    way(6, "fewer hours done than the length", |r, call| {
+        let hours = below_length(r, call, [1, 12]);
         called(call).into_iter().for_each(|zone| call.day.hours[zone] = hours);
     }),
 ];
@@ -203,23 +209,24 @@ fn by_cause(lists: &[&'static [Way]]) -> Vec<&'static Way> {
     ways
 }
 
-/// An hour of the zone that is accepted.
+/// An hour of the zone that is accepted, in a day of any length.
 pub fn fit_hour(random: &mut Random, zone: i64) -> Call {
-    fit(random, zone, |hours| hours < limits::HOURS)
+    fit(random, zone, |hours, length| hours < length)
 }
 
-/// A closing of the zone that is accepted.
+/// A closing of the zone that is accepted, of a day of any length.
 pub fn fit_closing(random: &mut Random, zone: i64) -> Call {
-    fit(random, zone, |hours| hours == limits::HOURS)
+    fit(random, zone, |hours, length| hours == length)
 }
 
-/// A call in the middle of a day, whose zone is not closed and has such hours done.
-fn fit(random: &mut Random, zone: i64, hours_fit: fn(i64) -> bool) -> Call {
+/// A call in the middle of a day, whose zone is not closed and has such hours done for the
+/// day's length.
+fn fit(random: &mut Random, zone: i64, hours_fit: fn(i64, i64) -> bool) -> Call {
     let any = 1 + random.below(limits::PLACES);
     let users = random.pick([1, 2, 3, 64, 65, 127, 128, any]);
     let (day, table) = loop {
         let (day, table) = day(random, users);
-        if !day.is_closed(zone as usize) && hours_fit(day.hours[zone as usize]) {
+        if !day.is_closed(zone as usize) && hours_fit(day.hours[zone as usize], day.length) {
             break (day, table);
         }
     };
@@ -251,8 +258,36 @@ fn resize<T: Clone + Default>(random: &mut Random, list: &mut Vec<T>) {
     list.resize(random.pick([short, 0, length + 1, length + 128]), T::default());
 }
 
+/// The record has one of these lengths. A zone that had all hours done mostly has all of
+/// them by this length too, so that the length alone is amiss.
+fn set_length(random: &mut Random, call: &mut Call, lengths: [i64; 6]) {
+    let length = random.pick(lengths);
+    let follows = !random.one_in(4);
+    for zone in 0..2 {
+        if follows && call.day.hours[zone] == call.day.length {
+            call.day.hours[zone] = length;
+            if called(call) == Some(zone) {
+                call.hour = length.saturating_add(1);
+            }
+        }
+    }
+    call.day.length = length;
+}
+
+/// More hours than the record's length: often one more.
+fn above_length(random: &mut Random, call: &Call) -> i64 {
+    let [next, second] = [1, 2].map(|more| call.day.length.saturating_add(more));
+    random.pick([next, next, second, 256, i64::MAX])
+}
+
+/// Fewer hours than the record's length: these few, or often one fewer.
+fn below_length(random: &mut Random, call: &Call, few: [i64; 2]) -> i64 {
+    let [last, second] = [1, 2].map(|fewer| call.day.length.saturating_sub(fewer));
+    random.pick([few[0], few[1], second, last, last])
+}
+
 fn close_early(random: &mut Random, call: &mut Call, zone: usize) {
-    call.day.hours[zone] = random.pick([0, 1, 22, 23, 23]);
+    call.day.hours[zone] = below_length(random, call, [0, 1]);
     call.day.closed[zone] = 1;
 }
 
@@ -262,14 +297,14 @@ fn close(random: &mut Random, call: &mut Call) {
     let both = random.one_in(2);
     for zone in 0..2 {
         if both || called(call) == Some(zone) {
-            call.day.hours[zone] = limits::HOURS;
+            call.day.hours[zone] = call.day.length;
             call.day.closed[zone] = 1;
             if !random.one_in(4) {
                 part(call, zone as i64).fill(0);
             }
         }
     }
-    call.hour = random.pick([call.hour, 24, 25]);
+    call.hour = random.pick([call.hour, call.day.length, call.day.length.saturating_add(1)]);
 }
 
 /// The zone has hours done and is open, so that its users may have positions.
@@ -303,12 +338,13 @@ fn beyond_users(random: &mut Random, call: &mut Call, zone: i64) {
     }
 }
 
-/// A zone with no hours done, or a closed one, has one place that is not zero.
-fn fill_idle(random: &mut Random, call: &mut Call, zone: i64, hours: i64) {
+/// A zone that is closed, or else one with no hours done, has one place that is not zero.
+fn fill_idle(random: &mut Random, call: &mut Call, zone: i64, closed: bool) {
+    let hours = if closed { call.day.length } else { 0 };
     call.day.hours[zone as usize] = hours;
-    call.day.closed[zone as usize] = i64::from(hours == limits::HOURS);
+    call.day.closed[zone as usize] = i64::from(closed);
     if call.zone == zone {
-        call.hour = hours + 1;
+        call.hour = hours.saturating_add(1);
     }
     let place = some_place(random, call.day.users as usize);
     let part = part(call, zone);

@@ -11,6 +11,7 @@ returns c =
       c .zone-of2 .ensures,
       c .before .zone-of .ensures,
       read (f .users),
+      read (f .length),
       read (f .h-hours),
       read (f .h-closed),
       read (f .l-hours),

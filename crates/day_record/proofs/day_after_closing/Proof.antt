@@ -2,7 +2,7 @@
 use mathlib.Core.Path.{_≡_, sym, ap, _∙_}
 use mathlib.Core.Bool.{Bool}
 use Rattle.integers.specs.Ranges.{isZero}
-use Rattle.integers.proofs.Machine.{read, back}
+use Rattle.integers.proofs.Machine.{read}
 use Rattle.rules.specs.Days.{withZoneDay, dayAfterClosing}
 use borrow.Author.Needs.{needs}
 use Rattle.day_record.proofs.day_after_closing.Statement.{statement}
@@ -18,28 +18,34 @@ is-zero-requires c κs = search needs
 closed-now-requires : tie.Need-closed-now-requires
 closed-now-requires c κs = search needs
 
+with-zones-requires : tie.Need-with-zones-requires
+with-zones-requires c κs = search needs
+
 closed-now-requires-2 : tie.Need-closed-now-requires-2
 closed-now-requires-2 c κs = search needs
+
+with-zones-requires-2 : tie.Need-with-zones-requires-2
+with-zones-requires-2 c κs = search needs
 
 returns : tie.Need-returns
 unfolding dayAfterClosing withZoneDay
 returns c =
     rw (
-      tested (c .before .before .before) (c .before .before .if1 .taken),
+      c .with-zones .ensures,
       c .before .closed-now .ensures,
-      back (c .before .before .before .before .before .before .args .day .users) (c .struct-told .given .0 .1),
+      tested (c .before .before .before) (c .before .before .if1 .taken),
     )
 
 returns-2 : tie.Need-returns-2
 unfolding dayAfterClosing withZoneDay
 returns-2 c =
     rw (
-      tested (c .before .before .before) (c .before .before .if1 .left),
+      c .with-zones2 .ensures,
       c .before .closed-now2 .ensures,
-      back (c .before .before .before .before .before .before .args .day .users) (c .struct-told2 .given .0 .1),
+      tested (c .before .before .before) (c .before .before .if1 .left),
     )
 
 pub day-after-closing-spec : {M : Type 1} → statement M
 day-after-closing-spec =
     tie.close
-    (tie.spec is-zero-requires closed-now-requires closed-now-requires-2 returns returns-2)
+    (tie.spec is-zero-requires closed-now-requires with-zones-requires closed-now-requires-2 with-zones-requires-2 returns returns-2)

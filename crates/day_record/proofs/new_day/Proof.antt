@@ -6,7 +6,7 @@ use Rattle.day_record.proofs.new_day.Tie as tie
 
 returns : tie.Need-returns
 unfolding newDay
-returns c = rw (read (c .fits .users))
+returns c = simp (read (c .fits .users), read (c .fits .length))
 
 pub new-day-spec : {M : Type 1} → statement M
 new-day-spec = tie.close (tie.spec returns)

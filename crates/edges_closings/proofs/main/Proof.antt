@@ -9,7 +9,7 @@ abbrev Inv-loop : tie.InvT-loop
 Inv-loop i₀ i = Unit
 
 abbrev μ-loop : tie.MeasureT-loop
-μ-loop i₀ i = 41 - i
+μ-loop i₀ i = 59 - i
 
 pub main-spec : {M : Type 1} → statement M
 main-spec =

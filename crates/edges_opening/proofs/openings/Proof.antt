@@ -9,12 +9,12 @@ abbrev Inv-loop : tie.InvT-loop
 Inv-loop i₀ i = Unit
 
 abbrev μ-loop : tie.MeasureT-loop
-μ-loop i₀ i = 36 - i
+μ-loop i₀ i = 288 - i
 
 pub openings-spec : {M : Type 1} → statement M
 openings-spec =
     tie.close
     (tie.spec
     Inv-loop μ-loop (λ c. search needs) (λ c. search needs) (λ c. search needs) (λ c. search needs)
-    (λ c. search needs) (λ c κs. search needs) (λ c. search needs) (λ c. omega arith) (λ c. search needs)
-    (λ c. search needs))
+    (λ c. search needs) (λ c. search needs) (λ c. search needs) (λ c κs. search needs) (λ c. search needs)
+    (λ c. omega arith) (λ c. search needs) (λ c. search needs))

@@ -17,7 +17,8 @@ same-length c = search needs
 
 returns : tie.Need-returns
 returns c =
-    let e = rw (read (c .before .before .before .before .fits .users)) at (c .before .before .«open» .ensures) in
+    let fits = c .before .before .before .before .fits in
+    let e = rw (read (fits .users), read (fits .length)) at (c .before .before .«open» .ensures) in
     record { answer = c .flat-open .ensures ∙ ap flatOpen (e .answer); table = e .table }
 
 pub gas-day-open-spec : {M : Type 1} → statement M

@@ -7,7 +7,7 @@ use mir.Val.{toZ, ofZ}
 use denote.Ref.{now}
 use Rattle.integers.proofs.Machine.{read, back}
 use Rattle.rules.specs.Answers.{openAnswer}
-use Rattle.hour_text.specs.Opened.{opened}
+use Rattle.hour_text.specs.Opened.{programLength, opened}
 use Rattle.hour_text.proofs.Opening.{accepted-text, open-refused, open-none, open-day}
 use borrow.Author.Needs.{needs}
 use Rattle.hour_text.proofs.day_text.Statement.{statement}
@@ -17,7 +17,7 @@ counted : (c : tie.After-signed) → toZ w64 (ofZ w64 (c .signed .result)) ≡ p
 counted c = back (c .signed .result) (c .signed .ok) ∙ c .signed .ensures
 
 answered : (o : tie.After-open) → let a =
-    o .before .before .before .before .before .args in o .«open» .result ≡ openAnswer (pos (length (now (a .entry)))) (now (a .table))
+    o .before .before .before .before .before .args in o .«open» .result ≡ openAnswer (pos (length (now (a .entry)))) programLength (now (a .table))
 answered o = rw (counted (o .before .before)) at (o .«open» .ensures .answer)
 
 signed-requires : tie.Need-signed-requires
@@ -44,7 +44,7 @@ returns c =
     let k = c .before .before .before .before .before in
     let o = k .before .before .before in
     let a = o .before .before .before .before .before .args in
-    rw (open-refused (pos (length (now (a .entry)))) (now (a .table)) _ (sym (k .number .given .1) ∙ answered o))
+    rw (open-refused (pos (length (now (a .entry)))) programLength (now (a .table)) _ (sym (k .number .given .1) ∙ answered o))
     (c .before .before .write-refused .ensures)
 
 enum-known-day : tie.Need-enum-known-day
@@ -81,8 +81,8 @@ returns-2 c =
     let n = pos (length (now (s .args .entry))) in
     let e = sym (d .day .given .1) ∙ answered o in
     let t = rw (counted (o .before .before)) at (o .«open» .ensures .table) in
-    rw (accepted-text _ (open-none n (now (s .args .table)) e))
-    (rw (read (s .fits .hour), read (s .fits .zone), open-day n (now (s .args .table)) e, t) at (w .january-text .ensures))
+    rw (accepted-text _ (open-none n programLength (now (s .args .table)) e))
+    (rw (read (s .fits .hour), read (s .fits .zone), open-day n programLength (now (s .args .table)) e, t) at (w .january-text .ensures))
 
 pub day-text-spec : {M : Type 1} → statement M
 day-text-spec =

@@ -18,6 +18,7 @@ returns c =
       c .before .zone-for-c2 .ensures,
       c .before .before .zone-for-c .ensures,
       back (c .before .before .before .args .day .users) (c .struct-told .given .0 .1),
+      back (c .before .before .before .args .day .length) (c .struct-told .given .1 .0 .1),
     )
 
 pub day-for-c-spec : {M : Type 1} → statement M

@@ -16,7 +16,15 @@ zone-of-requires-2 c κs = search needs
 
 returns : tie.Need-returns
 unfolding dayOf
-returns c = rw (c .zone-of2 .ensures, c .before .zone-of .ensures, back _ (c .before .before .users-of .ok), c .before .before .users-of .ensures)
+returns c =
+    let few = c .before .before .before in
+    rw (
+      c .before .zone-of2 .ensures,
+      c .before .before .zone-of .ensures,
+      back _ (few .users-of .ok),
+      few .users-of .ensures,
+      back (few .before .args .day .length) (c .struct-told .given .1 .0 .1),
+    )
 
 pub day-of-spec : {M : Type 1} → statement M
 day-of-spec = tie.close (tie.spec users-of-requires zone-of-requires zone-of-requires-2 returns)

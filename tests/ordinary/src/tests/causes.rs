@@ -38,8 +38,8 @@ fn unchanged_all_is_accepted() {
 fn cause_1_opening() {
     for users in [0, -1, 129, i64::MIN, i64::MAX] {
         let mut table = [5; 256];
-        assert_eq!(open(users, &mut table), Err(1));
-        assert_eq!(open(users, &mut table[..9]), Err(1));
+        assert_eq!(open(users, 24, &mut table), Err(1));
+        assert_eq!(open(users, 24, &mut table[..9]), Err(1));
         assert_eq!(table, [5; 256]);
     }
 }
@@ -75,8 +75,8 @@ fn cause_2_record() {
 #[test]
 fn cause_3_lengths() {
     let mut table = [5; 257];
-    assert_eq!(open(128, &mut table), Err(3));
-    assert_eq!(open(128, &mut table[..255]), Err(3));
+    assert_eq!(open(128, 24, &mut table), Err(3));
+    assert_eq!(open(128, 24, &mut table[..255]), Err(3));
     assert_eq!(table, [5; 257]);
     let changes: [fn(&mut Bench, &mut Hour); 10] = [
         |bench, _| bench.table.push(0),

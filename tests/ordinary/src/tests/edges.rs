@@ -22,10 +22,11 @@ fn users_1_and_128() {
         let mut table = [i64::MIN; 256];
         let day = Day {
             users,
+            length: 24,
             hours: [0; 2],
             closed: [0; 2],
         };
-        assert_eq!(open(users, &mut table), Ok(day));
+        assert_eq!(open(users, 24, &mut table), Ok(day));
         assert_eq!(table, [0; 256]);
     }
 }

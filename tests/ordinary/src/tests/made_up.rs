@@ -122,14 +122,17 @@ fn every_kind_of_hour_is_what_it_says() {
 }
 
 /// "At the end the first equals the second plus the user's place in the zone's part of
-/// the table", over a list of accepted and refused calls.
+/// the table", over a list of accepted and refused calls. Ask 3: "The conservation rule is
+/// shown once for all lengths."
 #[test]
 fn conservation_over_lists_of_calls() {
     let mut random = Random::new(2);
     let mut accepted = [0; 2];
+    let mut closed_days = [0; 3];
     for round in 0..60 {
         let users = random.pick([1, 2, 7, 128]);
-        let mut bench = Bench::opened(users);
+        let length = random.pick([23, 24, 25]);
+        let mut bench = Bench::of_length(users, length);
         let (mut given, mut settled) = (vec![0_i128; 256], vec![0_i128; 256]);
         for _ in 0..120 {
             let zone = random.below(2);
@@ -137,6 +140,7 @@ fn conservation_over_lists_of_calls() {
             if random.one_in(8) {
                 if bench.close(zone as i64, (3, 4)).is_ok() {
                     accepted[1] += 1;
+                    closed_days[length as usize - 23] += 1;
                     (0..users).for_each(|g| settled[part + g] += i128::from(bench.quantity[g]));
                 }
                 continue;
@@ -165,6 +169,7 @@ fn conservation_over_lists_of_calls() {
         }
     }
     assert!(accepted[0] > 2_000 && accepted[1] > 50, "{accepted:?}");
+    assert!(closed_days.iter().all(|&count| count > 9), "{closed_days:?}");
 }
 
 /// Calls with odd numbers anywhere never panic, and a refusal changes nothing (which
@@ -193,6 +198,7 @@ fn odd_calls() {
             5 => called = odd_number(&mut random),
             6 => hour.pooling.truncate(users - 1),
             7 => spoil(&mut random, &mut hour),
+            8 => bench.day.length = odd_number(&mut random),
             _ => (),
         }
         let prices = (hour.terms.excess_price, hour.terms.shortfall_price);

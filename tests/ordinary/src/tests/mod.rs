@@ -1,10 +1,12 @@
-//! Tests: the paper's cases, the edges that it names, and every cause.
+//! Tests: the papers' cases, the edges that they name, and every cause.
 
 mod cases;
 mod causes;
 mod edges;
+mod lengths;
 mod made_up;
 mod reader;
+mod spoilt;
 mod writer;
 
 use crate::made_up::Hour;
@@ -29,10 +31,16 @@ struct Bench {
 }
 
 impl Bench {
-    /// A day just opened, its lent lists full of old numbers.
+    /// A day just opened, its lent lists full of old numbers: "The cases and the program
+    /// have length 24."
     fn opened(users: usize) -> Bench {
+        Bench::of_length(users, 24)
+    }
+
+    /// The same of a day of this length.
+    fn of_length(users: usize, length: i64) -> Bench {
         let mut table = vec![77; 256];
-        let day = open(users as i64, &mut table).unwrap();
+        let day = open(users as i64, length, &mut table).unwrap();
         Bench {
             day,
             table,
