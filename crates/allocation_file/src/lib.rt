@@ -1,4 +1,7 @@
 // The reader of an hour's allocation file: one public call, `read_hour_file`. What the file's rules are is in specs/.
+
+#![tactic(auto)]
+
 ghost use Rattle.std.specs.Prelude.{◌≡◌};
 ghost use Rattle.allocation_file.specs.File.{all128, ReadHour};
 ghost use Rattle.allocation_file.specs.Steps.{answer_to};

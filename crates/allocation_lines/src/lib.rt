@@ -1,4 +1,7 @@
 // The lines of an hour's file, taken in turn from where its header ends. The rules are in specs/.
+
+#![tactic(auto)]
+
 ghost use Rattle.std.specs.Prelude.{◌≡◌, ◌≤◌, drop};
 ghost use Rattle.csv.specs.Lines.{lines};
 ghost use Rattle.allocation_lines.specs.Turns.{in_turn, body_of};

@@ -1,5 +1,8 @@
 // One line of an hour's file: by itself its form, then its seven fields; and at its place, whether it may stand there
 // and its amounts put there. The rules are in specs/.
+
+#![tactic(auto)]
+
 ghost use Rattle.std.specs.Prelude.{◌≡◌, length};
 ghost use Rattle.csv.specs.Lines.{fields};
 ghost use Rattle.allocation_row.specs.Rows.{is_plain, is_form, zone_of, as_row, fields_of, row_of, follows};

@@ -1,5 +1,8 @@
 // The line of a row of an hour's file: how long it is, and the line written into bytes that are lent. specs/ says what
 // its text is.
+
+#![tactic(auto)]
+
 ghost use Rattle.std.specs.Prelude.{◌≡◌, ◌++◌, ◌+◌, ◌≤◌, length};
 ghost use Rattle.text.specs.Bytes.{line_end};
 ghost use Rattle.text.specs.Puts.{Put};

@@ -1,4 +1,7 @@
 // The writer of an hour's allocation file: one public call, `write_hour_file`. What it writes is in specs/.
+
+#![tactic(auto)]
+
 ghost use Rattle.std.specs.Prelude.{◌≡◌, ◌+◌, ◌*◌, ◌≤◌, ◌<◌, length};
 ghost use Rattle.integers.specs.Lists.{every};
 ghost use Rattle.rules.specs.Limits.{users_most};

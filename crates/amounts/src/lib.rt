@@ -1,4 +1,7 @@
 // Causes 9 to 11: the ranges of the amounts, the sum of the pooling amounts, the positions before settlement.
+
+#![tactic(auto)]
+
 ghost use Rattle.std.specs.Prelude.{◌≡◌, ◌≤◌, nat_abs, ◌+ℤ◌};
 ghost use Rattle.integers.specs.Lists.{every};
 ghost use Rattle.rules.specs.Limits.{entry_most, exit_most, title_most, pooling_most, position_most, position_fit};

@@ -1,4 +1,7 @@
 // Rule 4 of document 01, the largest remainder rule: a total is shared by size, in whole units.
+
+#![tactic(auto)]
+
 ghost use Rattle.std.specs.Prelude.{◌≡◌, ◌&&◌, ◌||◌, ◌-◌, ◌*◌, ◌/◌, ◌%◌, ◌<◌, ◌≤◌, min, max, ltb, eqb, pos, nat_abs, ◌+ℤ◌, length};
 ghost use Rattle.integers.specs.Lists.{bit, sum};
 ghost use Rattle.largest_remainder.specs.Cuts.{above, IsCut};

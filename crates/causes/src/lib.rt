@@ -1,5 +1,8 @@
 // The causes for turning a call away: for each call the first that applies, and 0 for none. Every input is accepted, so each test stands
 // behind those that it counts on: the record before the hours, the lengths before the places, the ranges before the sums.
+
+#![tactic(auto)]
+
 ghost use Rattle.std.specs.Prelude.{◌≡◌, true};
 ghost use Rattle.rules.specs.Hours.{hour_given, closing_given};
 ghost use Rattle.rules.specs.Causes.{day_fit, open_cause, thresholds_cause, hour_cause, closing_cause};

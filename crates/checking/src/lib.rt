@@ -1,5 +1,8 @@
 // What the test programs share: comparisons of what came back with what was lent, each equal to a definition of specs/, so that none can always hold. Every function takes
 // every input.
+
+#![tactic(auto)]
+
 ghost use Rattle.std.specs.Prelude.{◌≡◌, pos, eqb, get_or, set, take, drop};
 ghost use Rattle.integers.specs.Lists.{every};
 ghost use Rattle.integers.specs.Ranges.{equal};

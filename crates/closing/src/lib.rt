@@ -1,4 +1,7 @@
 // The closing of a zone, once no cause is left: each user's quantity is its whole position.
+
+#![tactic(auto)]
+
 ghost use Rattle.std.specs.Prelude.{◌≡◌, map, ◌≤◌, nat_abs, length};
 ghost use Rattle.integers.specs.Lists.{sumℤ, AtMost};
 ghost use Rattle.rules.specs.Limits.{users_most, position_most, price_most};

@@ -1,5 +1,8 @@
 // Lines that end in CR LF and fields that commas part (RFC 4180, without quotes), each as a part of the caller's
 // bytes.
+
+#![tactic(auto)]
+
 ghost use Rattle.std.specs.Prelude.{◌≡◌, ◌+◌, ◌≤◌, ◌<◌, length, drop};
 ghost use Rattle.csv.specs.Lines.{begins, fields, field_at};
 ghost use Rattle.csv.specs.Steps.{line_len, field_len, line_at, FieldStart};

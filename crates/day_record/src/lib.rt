@@ -1,4 +1,7 @@
 // The day record: what is asked of it (cause 2, closed zones, hours), and what a call makes of it.
+
+#![tactic(auto)]
+
 ghost use Rattle.std.specs.Prelude.{◌≡◌, true, ◌≤◌, nat_abs};
 ghost use Rattle.rules.specs.Limits.{length_most};
 ghost use Rattle.rules.specs.Days.{hours_of_day, hours_done, is_closed};

@@ -1,5 +1,8 @@
 // The edges of closing a zone, one line a case: its row, what the answer says, and what a comparison with what was lent says. The file `stdout`, with which the lines
 // are compared, has the answers of documents 01 and 02.
+
+#![tactic(auto)]
+
 use checking::{all_are, at, lent, put};
 use integers::natural;
 use libc::STDOUT_FILENO;

@@ -1,6 +1,9 @@
 // The edges of the reader of an hour's file that are too long to be computed in a proof: lists of other lengths, the longest files, the longest numbers; and amounts as they are
 // spelled, in kWh and in MWh. Small files with their answers are computed in the crate `file_guarantees`. The file `stdout`, with which the lines are compared, has the answers of
 // documents 01 and 02.
+
+#![tactic(auto)]
+
 use allocation_file::{FileAnswer, FileRead};
 use checking::{all_are, lent, rest};
 use integers::{both, magnitude, natural};

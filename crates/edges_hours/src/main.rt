@@ -1,5 +1,8 @@
 // The edges of settling an hour, one line a case: its changes of the usual call, what the answer says, and what a comparison with what was lent says. (The four lists
 // of amounts are lent as `&`: no call can change them.) The file `stdout`, with which the lines are compared, has the answers of documents 01 and 02.
+
+#![tactic(auto)]
+
 use checking::{all_are, all_scratch, at, first, lent, part, put, rest, sums};
 use integers::natural;
 use libc::STDOUT_FILENO;

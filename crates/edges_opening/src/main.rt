@@ -1,5 +1,8 @@
 // The edges of opening a day and of the default thresholds, one line a case: every number of a list with every one of the others. The file `stdout`, with which the
 // lines are compared, has the answers of documents 01 and 02.
+
+#![tactic(auto)]
+
 use checking::{all_are, first, lent};
 use integers::natural;
 use libc::STDOUT_FILENO;

@@ -1,5 +1,8 @@
 // The edges of the writer of an hour's file, one line a case: its numbers, what the answer says, what a comparison with what was lent says, and what the reader says of what was
 // written. (The four lists of amounts are lent as `&`: no call can change them.) The file `stdout`, with which the lines are compared, has the answers of documents 01 and 02.
+
+#![tactic(auto)]
+
 ghost use Rattle.std.specs.Prelude.{◌≡◌, eqb, take, drop};
 ghost use Rattle.integers.specs.Lists.{every};
 

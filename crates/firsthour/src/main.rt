@@ -1,5 +1,8 @@
 // Settles the first hour of a Gas Day: reads the hour's allocation file from standard input, and prints each user's positions, quantity and money, or the one line
 // of a refusal. Only the reading and the writing stand outside the contracts: `input_text` fixes every byte that is printed.
+
+#![tactic(auto)]
+
 ghost use Rattle.std.specs.Prelude.{◌≤◌, ◌<◌, length};
 ghost use Rattle.allocation_file.specs.File.{file_of};
 ghost use Rattle.io.specs.Counts.{IsPrefixLen};

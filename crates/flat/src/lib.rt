@@ -1,5 +1,8 @@
 // The answers for C: no enum crosses, so each becomes a struct with C's layout that holds its cause, 0 for none, beside its values; what a refusal does not
 // answer is 0.
+
+#![tactic(auto)]
+
 ghost use Rattle.std.specs.Prelude.{◌≡◌};
 ghost use Rattle.flat.specs.Flat.{flat_open, flat_thresholds, flat_done, flat_hour, flat_closing, flat_file, flat_written};
 

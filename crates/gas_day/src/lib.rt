@@ -1,5 +1,8 @@
 // The public calls of the Gas Day. Each accepts every input, gives the first cause of document 01 that applies, else the answer, and writes nothing before every
 // cause has been looked at. The contracts set the answer and every lent area equal to the definitions of the crate `rules`.
+
+#![tactic(auto)]
+
 ghost use Rattle.std.specs.Prelude.{◌≡◌};
 ghost use Rattle.rules.specs.Hours.{hour_given, closing_given};
 ghost use Rattle.rules.specs.Answers.{thresholds_answer};

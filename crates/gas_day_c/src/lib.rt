@@ -1,5 +1,8 @@
 // The public calls for C: numbers, areas as pointer and length, structs by value with C's layout; no enum crosses. Each call answers its cause, 0 for none, beside
 // its values, and leaves every lent area as the call that it wraps.
+
+#![tactic(auto)]
+
 ghost use Rattle.std.specs.Prelude.{◌≡◌};
 ghost use Rattle.rules.specs.Hours.{hour_given, closing_given};
 ghost use Rattle.rules.specs.Answers.{thresholds_answer};

@@ -1,4 +1,7 @@
 // The text of an hour that is settled as the first of a day opened for it, with January's default thresholds, or the one line of a refusal.
+
+#![tactic(auto)]
+
 ghost use Rattle.std.specs.Prelude.{◌≡◌, take};
 ghost use Rattle.rules.specs.Hours.{hour_given};
 ghost use Rattle.rules.specs.Answers.{hour_number};

@@ -1,4 +1,7 @@
 // Leaf functions on signed numbers and on lists of numbers. The laws that all crates above cite are in proofs/.
+
+#![tactic(auto)]
+
 ghost use Rattle.std.specs.Prelude.{◌≡◌, ◌&&◌, ◌||◌, ◌*◌, ◌^◌, ◌<◌, eqb, pos, nat_abs, neg_ℤ, ◌*ℤ◌, length, replicate};
 ghost use Rattle.std.specs.Int.Signed.{le_z};
 ghost use Rattle.integers.specs.Lists.{every};

@@ -1,4 +1,7 @@
 // The table: cause 7. The live places of a zone are tested for their range and the others for zero, which is in range: each place is looked at once.
+
+#![tactic(auto)]
+
 ghost use Rattle.std.specs.Prelude.{◌≡◌, ◌≤◌, length};
 ghost use Rattle.integers.specs.Ranges.{is_zero};
 ghost use Rattle.integers.specs.Lists.{every};

@@ -1,4 +1,7 @@
 // Rules 1 and 2 on signed numbers: a user's position before settlement, the sum over all users, and what it is against the thresholds.
+
+#![tactic(auto)]
+
 ghost use Rattle.std.specs.Prelude.{◌≡◌, true, cond, ◌≤◌, nat_abs, ◌+ℤ◌, ◌-ℤ◌, length};
 ghost use Rattle.std.specs.Int.Signed.{lt_z};
 ghost use Rattle.integers.specs.Lists.{sumℤ, AtMost};

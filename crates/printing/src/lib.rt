@@ -1,5 +1,8 @@
 // The words and numbers of the lines that the test programs print, put into bytes that are lent: each function is lent the line and where it ends, and answers where it ends
 // then. What a line has no room for is left out. Nothing is printed here: a program does that, with a line that is whole.
+
+#![tactic(auto)]
+
 ghost use Rattle.std.specs.Prelude.{◌≡◌, [], ◌∷◌, ◌+◌, ◌^◌, ◌<◌, take};
 ghost use Rattle.text.specs.Decimals.{digits, decimal};
 ghost use Rattle.printing.specs.Said.{Said};

@@ -1,4 +1,7 @@
 // "Quantities and their ranges": the tests of causes 1, 4, 8 and 21, of a number each. Those of lists are with their limits.
+
+#![tactic(auto)]
+
 ghost use Rattle.std.specs.Prelude.{◌≡◌, ◌&&◌};
 ghost use Rattle.rules.specs.Limits.{users_fit, length_fit, zone_fit, month_fit, upper_fit, lower_fit};
 ghost use Rattle.rules.specs.Causes.{prices_fit, terms_fit};

@@ -1,4 +1,7 @@
 // The day record for C. C's own Boolean could hold other bytes than its two, which no call could tell; a number can be checked.
+
+#![tactic(auto)]
+
 ghost use Rattle.std.specs.Prelude.{◌≡◌, pos};
 ghost use Rattle.integers.specs.Lists.{bit};
 ghost use Rattle.record_c.specs.Records.{zone_for_c, day_for_c, mark_fits, users_of, zone_of, day_of};

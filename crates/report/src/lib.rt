@@ -1,4 +1,7 @@
 // The text that the program prints, written into bytes that are lent. Each function answers where its text ends.
+
+#![tactic(auto)]
+
 ghost use Rattle.std.specs.Prelude.{◌+◌, ◌≤◌, length};
 ghost use Rattle.text.specs.Puts.{Put};
 ghost use Rattle.report.specs.Text.{user_line, refused_line, hour_text};

@@ -1,6 +1,9 @@
 // The types of the Gas Day: the record, what a call is told, and what it answers. The rules are the definitions of specs/.
 
 // Of one zone: the hours done, and whether it is closed.
+
+#![tactic(auto)]
+
 #[derive(Drop)]
 pub struct ZoneDay {
     pub hours: i64,

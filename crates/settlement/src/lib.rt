@@ -1,4 +1,7 @@
 // The settlement of an hour in one zone: rules 1 to 6 on a lent part of the table, once no cause is left.
+
+#![tactic(auto)]
+
 ghost use Rattle.std.specs.Prelude.{◌≡◌, length};
 ghost use Rattle.positions.specs.Before.{befores, Amounts};
 ghost use Rattle.settlement.specs.Steps.{Asks, UsersLeave, ZoneLeaves, TableAsks, TableLeaves};

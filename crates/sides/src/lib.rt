@@ -1,4 +1,7 @@
 // One side of the thresholds, an excess or a shortfall: rules 3 to 6 on the users' positions before settlement. A shortfall goes by negation.
+
+#![tactic(auto)]
+
 ghost use Rattle.std.specs.Prelude.{◌≡◌, true, map, ◌≤◌, nat_abs, ◌-ℤ◌, length};
 ghost use Rattle.integers.specs.Lists.{bit, AtMost};
 ghost use Rattle.rules.specs.Limits.{users_most, position_most, price_most};
