@@ -1,7 +1,7 @@
 -- Loops over a list in place order: one that writes a list, one that tests every element, one that adds the elements. For each: what holds before the first turn,
 -- after a turn, and at the end. Assumes nothing.
 use mathlib.Core.Path.{◌≡◌, refl, sym, ap, ◌∙◌}
-use mathlib.Core.Bool.{Bool, true, false, ◌&&◌, and_assoc, and_true as and-unit}
+use mathlib.Core.Bool.{Bool, true, false, ◌&&◌, and_assoc, and-true as and-unit}
 use mathlib.Core.List.{List, [], ◌∷◌, ◌++◌, append-nil}
 use Prim.Native.Nat.{ℕ, zero, suc, ◌+◌, ◌*◌, ◌^◌, ◌≤◌, ◌<◌, zero-le}
 use native.Mathlib.Nat.{not-suc-le-zero, le_of_suc-le-suc}
