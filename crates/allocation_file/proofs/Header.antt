@@ -8,7 +8,7 @@ use lib.IntN.{ℤ}
 use lib.ListN.{length, drop}
 use borrow.Author.Tests.{eqb-true}
 use Rattle.integers.proofs.Tests.{and_true}
-use Rattle.csv.specs.Lines.{begins, lines}
+use Rattle.csv_lines.specs.Lines.{begins, lines}
 use Rattle.allocation_lines.specs.Turns.{refused, body_of}
 use Rattle.allocation_lines.specs.Steps.{Lent}
 use Rattle.allocation_file.specs.File.{header, file_of, all128, outcome}

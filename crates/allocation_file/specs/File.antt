@@ -1,7 +1,7 @@
 -- The file, and the call that reads it. Assumes nothing.
 use Rattle.std.specs.Prelude.{ℕ, ◌≡◌, Bool, ◌&&◌, cond, List, ◌++◌, map, eqb, ℤ, pos, length, drop}
 use Rattle.text.specs.Bytes.{bytes}
-use Rattle.csv.specs.Lines.{begins, lines}
+use Rattle.csv_lines.specs.Lines.{begins, lines}
 use Rattle.allocation_row.specs.declared.Row.{Row}
 use Rattle.allocation_lines.specs.Turns.{File, refused, read, body_of}
 use Rattle.allocation_file.specs.declared.FileAnswer.{FileAnswer}

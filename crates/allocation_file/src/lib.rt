@@ -7,7 +7,7 @@ ghost use Rattle.allocation_file.specs.File.{all128, ReadHour};
 ghost use Rattle.allocation_file.specs.Steps.{answer_to};
 
 use allocation_lines::{LinesAnswer, read_body};
-use csv::begins_with;
+use csv_lines::begins_with;
 use integers::both;
 
 // What a file that is read says besides its amounts: the hour, the zone's number (0 is H, 1 is L) and the number of

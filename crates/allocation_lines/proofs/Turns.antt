@@ -4,9 +4,9 @@ use mathlib.Core.Bool.{true, false}
 use mathlib.Core.List.{List, []}
 use Prim.Native.Nat.{ℕ, ◌+◌, ◌≤◌, ◌<◌}
 use lib.ListN.{length, drop}
-use Rattle.csv.specs.Lines.{lines}
-use Rattle.csv.specs.Steps.{line_at}
-use Rattle.csv.proofs.Lines.{lines_at, lines_end}
+use Rattle.csv_lines.specs.Lines.{lines}
+use Rattle.csv_lines.specs.Steps.{line_at}
+use Rattle.csv_lines.proofs.Lines.{lines_at, lines_end}
 use Rattle.allocation_row.specs.Rows.{row_of, follows}
 use Rattle.allocation_row.specs.declared.Row.{Row}
 use Rattle.allocation_row.specs.declared.Line.TheVariants.{Good, Faulty}

@@ -3,12 +3,12 @@
 #![tactic(auto)]
 
 ghost use Rattle.std.specs.Prelude.{◌≡◌, ◌≤◌, drop};
-ghost use Rattle.csv.specs.Lines.{lines};
+ghost use Rattle.csv_lines.specs.Lines.{lines};
 ghost use Rattle.allocation_lines.specs.Turns.{in_turn, body_of};
 ghost use Rattle.allocation_lines.specs.Steps.{Lent, After, is_refused};
 
 use allocation_row::{Line, follows_on, read_row, store};
-use csv::line_at;
+use csv_lines::line_at;
 
 // What lines that are read say besides their amounts: the hour, the zone's number and how many lines there are.
 #[derive(Drop)]

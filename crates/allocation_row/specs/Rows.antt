@@ -8,7 +8,7 @@ use Rattle.text.specs.declared.number.Unsigned.{Unsigned}
 use Rattle.text.specs.declared.number.Unsigned.TheVariants.{Number, NoNumber}
 use Rattle.text.specs.declared.number.Amount.{Amount}
 use Rattle.text.specs.declared.number.Amount.TheVariants.{Kwh, NoAmount}
-use Rattle.csv.specs.Lines.{fields, field_at}
+use Rattle.csv_lines.specs.Lines.{fields, field_at}
 use Rattle.allocation_row.specs.declared.Row.{Row}
 use Rattle.allocation_row.specs.declared.Line.{Line}
 use Rattle.allocation_row.specs.declared.Line.TheVariants.{Good, Faulty}

@@ -4,11 +4,11 @@
 #![tactic(auto)]
 
 ghost use Rattle.std.specs.Prelude.{◌≡◌, length};
-ghost use Rattle.csv.specs.Lines.{fields};
+ghost use Rattle.csv_lines.specs.Lines.{fields};
 ghost use Rattle.allocation_row.specs.Rows.{is_plain, is_form, zone_of, as_row, fields_of, row_of, follows};
 ghost use Rattle.allocation_row.specs.Steps.{Within, Stored};
 
-use csv::field;
+use csv_lines::field;
 use text::number::{Amount, Unsigned, read_amount, read_unsigned};
 
 // What a line's seven fields say.

@@ -15,7 +15,7 @@ use Rattle.text.specs.declared.number.Unsigned.TheVariants.{Number, NoNumber}
 use Rattle.text.specs.declared.number.Amount.TheVariants.{Kwh}
 use Rattle.text.proofs.Numbers.{number_if}
 use Rattle.text.proofs.Points.{parted, pointed, number_no_point}
-use Rattle.csv.specs.Lines.{field_at}
+use Rattle.csv_lines.specs.Lines.{field_at}
 use Rattle.allocation_row.specs.Rows.{letter_h, letter_l, zone_of}
 use Rattle.allocation_row.specs.declared.Row.{Row}
 use Rattle.file_guarantees.specs.Guarantees.{Size, in_kwh, in_mwh, Means, unsigned, minus, NoPoints}

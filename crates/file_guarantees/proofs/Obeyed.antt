@@ -8,8 +8,8 @@ use native.Mathlib.Omega.{arith}
 use lib.ListN.{length, take, replicate}
 use Rattle.integers.specs.Lists.{tabulate}
 use Rattle.integers.proofs.Counts.{tabulate_ext}
-use Rattle.csv.specs.Lines.{begins}
-use Rattle.csv.proofs.Begins.{begins-take, take_begins}
+use Rattle.csv_lines.specs.Lines.{begins}
+use Rattle.csv_lines.proofs.Begins.{begins-take, take_begins}
 use Rattle.allocation_row.specs.Rows.{row_of, follows}
 use Rattle.allocation_row.specs.declared.Row.{Row}
 use Rattle.allocation_row.specs.declared.Line.{Line}

@@ -15,7 +15,7 @@ use Rattle.text.specs.declared.number.Unsigned.{Unsigned}
 use Rattle.text.specs.declared.number.Unsigned.TheVariants.{Number, NoNumber}
 use Rattle.text.specs.declared.number.Amount.{Amount}
 use Rattle.text.specs.declared.number.Amount.TheVariants.{Kwh, NoAmount}
-use Rattle.csv.specs.Lines.{field_at}
+use Rattle.csv_lines.specs.Lines.{field_at}
 use Rattle.allocation_row.specs.Rows.{letter_h, letter_l, zone_of, is_form, as_row, fields_of, row_of}
 use Rattle.allocation_row.specs.declared.Row.{Row}
 use Rattle.allocation_row.specs.declared.Line.{Line}

@@ -6,7 +6,7 @@ use Rattle.text.specs.Bytes.{minus_sign, point}
 use Rattle.text.specs.Numbers.{digits_from, unsigned_of, has_point, amount_of}
 use Rattle.text.specs.declared.number.Unsigned.TheVariants.{Number}
 use Rattle.text.specs.declared.number.Amount.TheVariants.{Kwh}
-use Rattle.csv.specs.Lines.{field_at}
+use Rattle.csv_lines.specs.Lines.{field_at}
 use Rattle.allocation_row.specs.Rows.{row_of, follows}
 use Rattle.allocation_row.specs.declared.Row.{Row}
 use Rattle.allocation_row.specs.declared.Line.TheVariants.{Good, Faulty}

@@ -7,7 +7,7 @@ use native.Mathlib.Omega.{arith}
 use lib.Dec.{eqb}
 use borrow.Author.Tests.{eqb-true, ne_eqb}
 use Rattle.text.specs.Bytes.{comma, quote_mark}
-use Rattle.csv.specs.Lines.{on_first, at_comma, fields}
+use Rattle.csv_lines.specs.Lines.{on_first, at_comma, fields}
 use Rattle.allocation_text.specs.Text.{joined}
 use Rattle.writer_guarantees.proofs.Lists.{All, Above, above-less, all_append}
 

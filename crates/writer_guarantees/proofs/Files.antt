@@ -15,7 +15,7 @@ use Rattle.integers.specs.Ranges.{natural}
 use Rattle.integers.proofs.Sums.{at_most_cons}
 use Rattle.text.specs.Bytes.{carriage_return, line_feed, line_end}
 use Rattle.text.specs.Numbers.{has_point}
-use Rattle.csv.specs.Lines.{lines}
+use Rattle.csv_lines.specs.Lines.{lines}
 use Rattle.allocation_row.specs.declared.Row.{Row}
 use Rattle.allocation_file.specs.File.{header, lines_of}
 use Rattle.allocation_writer.specs.Writer.{Content, rows_of, ended, file_text, text_of}

@@ -8,7 +8,7 @@ use lib.Dec.{eqb}
 use borrow.Author.Tests.{eqb-true, ne_eqb}
 use Rattle.integers.proofs.Tests.{and_true}
 use Rattle.text.specs.Bytes.{carriage_return, line_feed, line_end}
-use Rattle.csv.specs.Lines.{is_pair, on_first, at_byte, lines}
+use Rattle.csv_lines.specs.Lines.{is_pair, on_first, at_byte, lines}
 use Rattle.allocation_writer.specs.Writer.{ended}
 use Rattle.writer_guarantees.proofs.Lists.{Above}
 

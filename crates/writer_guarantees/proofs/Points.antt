@@ -8,7 +8,7 @@ use lib.ListN.{get_or}
 use Rattle.text.specs.Bytes.{comma, line_end}
 use Rattle.text.specs.Numbers.{has_point}
 use Rattle.text.proofs.Points.{has_point-append}
-use Rattle.csv.specs.Lines.{fields, field_at}
+use Rattle.csv_lines.specs.Lines.{fields, field_at}
 use Rattle.allocation_text.specs.Text.{joined}
 use Rattle.allocation_writer.specs.Writer.{ended}
 use Rattle.writer_guarantees.proofs.Lists.{All}

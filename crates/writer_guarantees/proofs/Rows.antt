@@ -12,7 +12,7 @@ use Rattle.integers.proofs.Tests.{and_true}
 use Rattle.text.specs.Bytes.{comma, quote_mark, carriage_return, line_feed}
 use Rattle.text.specs.Numbers.{has_point}
 use Rattle.text.specs.declared.number.Unsigned.TheVariants.{Number, NoNumber}
-use Rattle.csv.specs.Lines.{fields, field_at, lines}
+use Rattle.csv_lines.specs.Lines.{fields, field_at, lines}
 use Rattle.allocation_row.specs.Rows.{is_plain, is_form, letter_h, letter_l, zone_of, as_row, row_of, fields_of as row_fields}
 use Rattle.allocation_row.specs.declared.Row.{Row}
 use Rattle.allocation_row.specs.declared.Line.TheVariants.{Good, Faulty}

@@ -8,9 +8,9 @@ use borrow.Author.Tests.{not-true, not-false}
 use borrow.Author.Rules.{rules}
 use borrow.Fn.Kinds.{In}
 use borrow.Fn.PlainCycle.{Measures, is, falls, and}
-use Rattle.csv.specs.Lines.{lines}
-use Rattle.csv.proofs.Lines.{line_at_within}
-use Rattle.csv.proofs.line_at.Reads as line-at-reads
+use Rattle.csv_lines.specs.Lines.{lines}
+use Rattle.csv_lines.proofs.Lines.{line_at_within}
+use Rattle.csv_lines.proofs.line_at.Reads as line-at-reads
 use Rattle.allocation_row.specs.declared.Row.{Row}
 use Rattle.allocation_row.specs.declared.Line.TheVariants.{Good}
 use Rattle.allocation_row.specs.Rows.{row_of, follows}

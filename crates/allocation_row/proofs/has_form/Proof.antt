@@ -9,9 +9,9 @@ use borrow.Author.Tests.{not-true, not-false}
 use borrow.Author.Rules.{rules}
 use Rattle.integers.specs.Lists.{every}
 use Rattle.integers.proofs.Passes.{every_end, every-next, every_stop}
-use Rattle.csv.specs.Lines.{fields}
+use Rattle.csv_lines.specs.Lines.{fields}
 use Rattle.allocation_row.specs.Rows.{is_plain}
-use Rattle.csv.proofs.Fields.{count-comma, count_other}
+use Rattle.csv_lines.proofs.Fields.{count-comma, count_other}
 use Rattle.allocation_row.proofs.has_form.Statement.{statement}
 use Rattle.allocation_row.proofs.has_form.Tie as tie
 

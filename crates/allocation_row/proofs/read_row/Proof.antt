@@ -6,7 +6,7 @@ use borrow.Author.Rules.{rules}
 use borrow.Author.Tests.{eqb-true}
 use Rattle.integers.specs.Lists.{every}
 use Rattle.integers.proofs.Tests.{and_true}
-use Rattle.csv.specs.Lines.{fields}
+use Rattle.csv_lines.specs.Lines.{fields}
 use Rattle.allocation_row.specs.Rows.{is_plain}
 use Rattle.allocation_row.proofs.read_row.Statement.{statement}
 use Rattle.allocation_row.proofs.read_row.Tie as tie

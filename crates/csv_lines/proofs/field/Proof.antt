@@ -4,10 +4,10 @@ use Prim.Native.Nat.{◌-◌}
 use native.Mathlib.Omega.{arith}
 use lib.ListN.{drop}
 use borrow.Author.Rules.{rules}
-use Rattle.csv.specs.Steps.{field_len}
-use Rattle.csv.proofs.Fields.{field_within, field_is}
-use Rattle.csv.proofs.field.Statement.{statement}
-use Rattle.csv.proofs.field.Tie as tie
+use Rattle.csv_lines.specs.Steps.{field_len}
+use Rattle.csv_lines.proofs.Fields.{field_within, field_is}
+use Rattle.csv_lines.proofs.field.Statement.{statement}
+use Rattle.csv_lines.proofs.field.Tie as tie
 
 field-start-requires : tie.Need-field-start-requires
 field-start-requires c κs = search rules

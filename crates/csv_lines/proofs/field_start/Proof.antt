@@ -4,11 +4,11 @@ use Prim.Native.Nat.{◌+◌, ◌-◌, ◌≤◌, ◌<◌}
 use native.Mathlib.Omega.{arith}
 use lib.ListN.{length}
 use borrow.Author.Rules.{rules}
-use Rattle.csv.specs.Lines.{fields}
-use Rattle.csv.specs.Steps.{FieldStart}
-use Rattle.csv.proofs.Fields.{start_none, start-next}
-use Rattle.csv.proofs.field_start.Statement.{statement}
-use Rattle.csv.proofs.field_start.Tie as tie
+use Rattle.csv_lines.specs.Lines.{fields}
+use Rattle.csv_lines.specs.Steps.{FieldStart}
+use Rattle.csv_lines.proofs.Fields.{start_none, start-next}
+use Rattle.csv_lines.proofs.field_start.Statement.{statement}
+use Rattle.csv_lines.proofs.field_start.Tie as tie
 
 abbrev invariant-loop : tie.invariant-loop
 invariant-loop line k at₀ j₀ at j = (j ≤ k) × FieldStart line j at

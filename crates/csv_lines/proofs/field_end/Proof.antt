@@ -4,10 +4,10 @@ use Prim.Native.Nat.{◌+◌, ◌-◌, ◌≤◌}
 use native.Mathlib.Omega.{arith}
 use lib.ListN.{length, drop, drop_of_length-le}
 use borrow.Author.Rules.{rules}
-use Rattle.csv.specs.Steps.{field_len}
-use Rattle.csv.proofs.Fields.{comma_here, comma-later}
-use Rattle.csv.proofs.field_end.Statement.{statement}
-use Rattle.csv.proofs.field_end.Tie as tie
+use Rattle.csv_lines.specs.Steps.{field_len}
+use Rattle.csv_lines.proofs.Fields.{comma_here, comma-later}
+use Rattle.csv_lines.proofs.field_end.Statement.{statement}
+use Rattle.csv_lines.proofs.field_end.Tie as tie
 
 abbrev invariant-loop : tie.invariant-loop
 invariant-loop line from i₀ i = (i ≤ length line) × (i + field_len (drop i line) ≡ from + field_len (drop from line))

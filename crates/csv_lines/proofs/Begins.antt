@@ -10,7 +10,7 @@ use lib.ListN.{length, get_or, take, drop, drop_of_length-le}
 use lib.Seq.{drop-cons}
 use borrow.Author.Tests.{eq-eqb, ne_eqb, eqb-true}
 use Rattle.integers.proofs.Tests.{and_true}
-use Rattle.csv.specs.Lines.{begins}
+use Rattle.csv_lines.specs.Lines.{begins}
 
 module _ (s head : List ℕ) (i : ℕ) (g : i < length head) where
   -- there is no such byte

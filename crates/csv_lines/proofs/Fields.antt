@@ -11,9 +11,9 @@ use lib.ListN.{length, get_or, take, drop, length-drop}
 use lib.Seq.{drop-cons, drop-drop, get_or-drop}
 use borrow.Author.Tests.{eq-eqb, ne_eqb}
 use Rattle.text.specs.Bytes.{comma}
-use Rattle.csv.specs.Lines.{on_first, at_comma, fields, field_at}
-use Rattle.csv.specs.Steps.{unless_end, field_len, FieldStart}
-use Rattle.csv.proofs.Lines.{end_within, part_within}
+use Rattle.csv_lines.specs.Lines.{on_first, at_comma, fields, field_at}
+use Rattle.csv_lines.specs.Steps.{unless_end, field_len, FieldStart}
+use Rattle.csv_lines.proofs.Lines.{end_within, part_within}
 
 -- ---- the first field
 -- a byte more in the first field

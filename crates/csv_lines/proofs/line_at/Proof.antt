@@ -4,10 +4,10 @@ use Prim.Native.Nat.{◌-◌}
 use native.Mathlib.Omega.{arith}
 use lib.ListN.{drop}
 use borrow.Author.Rules.{rules}
-use Rattle.csv.specs.Steps.{line_len}
-use Rattle.csv.proofs.Lines.{line_within}
-use Rattle.csv.proofs.line_at.Statement.{statement}
-use Rattle.csv.proofs.line_at.Tie as tie
+use Rattle.csv_lines.specs.Steps.{line_len}
+use Rattle.csv_lines.proofs.Lines.{line_within}
+use Rattle.csv_lines.proofs.line_at.Statement.{statement}
+use Rattle.csv_lines.proofs.line_at.Tie as tie
 
 line-end-requires : tie.Need-line-end-requires
 line-end-requires c κs = search rules

@@ -10,8 +10,8 @@ use lib.ListN.{length, get_or, take, drop, length-drop, drop_of_length-le}
 use lib.Seq.{drop-cons, drop-drop, length-take-le}
 use borrow.Author.Tests.{ne_eqb}
 use Rattle.text.specs.Bytes.{carriage_return, line_feed}
-use Rattle.csv.specs.Lines.{is_pair, at_byte, lines}
-use Rattle.csv.specs.Steps.{unless_end, line_len, line_at}
+use Rattle.csv_lines.specs.Lines.{is_pair, at_byte, lines}
+use Rattle.csv_lines.specs.Steps.{unless_end, line_len, line_at}
 
 -- ---- one byte further, in a loop that looks for the line's end
 module _ (s : List ℕ) (i : ℕ) (h : i + 1 < length s) where

@@ -4,10 +4,10 @@ use mathlib.Core.List.{List}
 use Prim.Native.Nat.{ℕ, ◌-◌, ◌≤◌}
 use lib.ListN.{length, drop, drop_of_length-le}
 use borrow.Author.Rules.{rules}
-use Rattle.csv.specs.Lines.{begins}
-use Rattle.csv.proofs.Begins.{begins_short, begins_not, begins_on}
-use Rattle.csv.proofs.begins_with.Statement.{statement}
-use Rattle.csv.proofs.begins_with.Tie as tie
+use Rattle.csv_lines.specs.Lines.{begins}
+use Rattle.csv_lines.proofs.Begins.{begins_short, begins_not, begins_on}
+use Rattle.csv_lines.proofs.begins_with.Statement.{statement}
+use Rattle.csv_lines.proofs.begins_with.Tie as tie
 
 abbrev invariant-loop : tie.invariant-loop
 invariant-loop file head i₀ i = (i ≤ length head) × (begins (drop i file) (drop i head) ≡ begins file head)

@@ -4,8 +4,8 @@
 #![tactic(auto)]
 
 ghost use Rattle.std.specs.Prelude.{◌≡◌, ◌+◌, ◌≤◌, ◌<◌, length, drop};
-ghost use Rattle.csv.specs.Lines.{begins, fields, field_at};
-ghost use Rattle.csv.specs.Steps.{line_len, field_len, line_at, FieldStart};
+ghost use Rattle.csv_lines.specs.Lines.{begins, fields, field_at};
+ghost use Rattle.csv_lines.specs.Steps.{line_len, field_len, line_at, FieldStart};
 
 // Whether `file` begins with `head`.
 pub fn begins_with(file: &[u8], head: &[u8]) -> bool

@@ -5,10 +5,10 @@ use Prim.Native.Nat.{◌+◌, ◌-◌, ◌≤◌, ◌<◌}
 use native.Mathlib.Omega.{arith}
 use lib.ListN.{length, drop}
 use borrow.Author.Rules.{rules}
-use Rattle.csv.specs.Steps.{line_len}
-use Rattle.csv.proofs.Lines.{pair_here, no_cr, no_lf, no_more}
-use Rattle.csv.proofs.line_end.Statement.{statement}
-use Rattle.csv.proofs.line_end.Tie as tie
+use Rattle.csv_lines.specs.Steps.{line_len}
+use Rattle.csv_lines.proofs.Lines.{pair_here, no_cr, no_lf, no_more}
+use Rattle.csv_lines.proofs.line_end.Statement.{statement}
+use Rattle.csv_lines.proofs.line_end.Tie as tie
 
 abbrev invariant-loop : tie.invariant-loop
 invariant-loop file from i₀ i = (i ≤ length file) × (i + line_len (drop i file) ≡ from + line_len (drop from file))

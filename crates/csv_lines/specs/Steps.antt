@@ -1,7 +1,7 @@
 -- Where a line or a field begins and ends. Assumes nothing.
 use Rattle.std.specs.Prelude.{ℕ, suc, ◌≤◌, ◌≡◌, Bool, true, false, List, [], ◌∷◌, eqb, length, take, drop}
 use Rattle.text.specs.Bytes.{comma}
-use Rattle.csv.specs.Lines.{is_pair, fields}
+use Rattle.csv_lines.specs.Lines.{is_pair, fields}
 
 -- one byte more, unless the part ends here
 abbrev pub unless_end : Bool → ℕ → ℕ
