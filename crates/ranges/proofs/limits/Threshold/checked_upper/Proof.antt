@@ -1,0 +1,26 @@
+-- Each branch by what the range test answered. Assumes nothing.
+use borrow.Author.Rules.{rules}
+use Rattle.integers.proofs.Machine.{read}
+use Rattle.rules.specs.Limits.{upper_fit}
+use Rattle.ranges.specs.Kinds.{only_if}
+use Rattle.ranges.proofs.Checked.{answered}
+use Rattle.ranges.proofs.limits.Threshold.checked_upper.Statement.{statement}
+use Rattle.ranges.proofs.limits.Threshold.checked_upper.Tie as tie
+
+within-requires : tie.Need-within-requires
+within-requires c κs = search rules
+
+returns : tie.Need-returns
+unfolding upper_fit only_if
+returns c =
+    let s = c.before.before in
+    simp (read s.fits.kwh, answered upper_fit s.fits.kwh c.before.within.ensures c.if1.taken)
+
+returns-2 : tie.Need-returns-2
+unfolding upper_fit only_if
+returns-2 c =
+    let s = c.before.before in
+    simp (answered upper_fit s.fits.kwh c.before.within.ensures c.if1.left)
+
+pub checked-upper-spec : {M : Type 1} → statement M
+checked-upper-spec = tie.close (tie.spec within-requires returns returns-2)
