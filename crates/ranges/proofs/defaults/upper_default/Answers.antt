@@ -15,7 +15,8 @@ pub upper_gwh-requires : goal.upper_gwh-requires
 upper_gwh-requires c =
     let row : c.natural-row.result ≡ natural c.args.zone = c.natural-row.ensures ∙ ap natural (read c.ranges.zone)
      in
-    let column : c.natural-column.result ≡ natural (c.args.month -ℤ pos 1) = c.natural-column.ensures ∙ ap natural (back (c.args.month -ℤ pos 1) (less_one c.args.month c.requires.1) ∙ ap (λ z. z -ℤ pos 1) (read c.ranges.month))
+    let column : c.natural-column.result ≡ natural (c.args.month -ℤ pos 1) =
+        rw (read c.ranges.month, back (c.args.month -ℤ pos 1) (less_one c.args.month c.requires.1)) at c.natural-column.ensures
      in
     (rw row (row_fits c.args.zone c.requires.0), rw column (column_fits c.args.month c.requires.1))
 
@@ -24,6 +25,7 @@ unfolding upper_default
 returns c =
     let row : c.natural-row.result ≡ natural c.args.zone = c.natural-row.ensures ∙ ap natural (read c.ranges.zone)
      in
-    let column : c.natural-column.result ≡ natural (c.args.month -ℤ pos 1) = c.natural-column.ensures ∙ ap natural (back (c.args.month -ℤ pos 1) (less_one c.args.month c.requires.1) ∙ ap (λ z. z -ℤ pos 1) (read c.ranges.month))
+    let column : c.natural-column.result ≡ natural (c.args.month -ℤ pos 1) =
+        rw (read c.ranges.month, back (c.args.month -ℤ pos 1) (less_one c.args.month c.requires.1)) at c.natural-column.ensures
      in
-    back _ c.signed.ok ∙ c.signed.ensures ∙ simp (c.upper_gwh.ensures, row, column)
+    back _ c.signed.type_inv ∙ c.signed.ensures ∙ simp (c.upper_gwh.ensures, row, column)
