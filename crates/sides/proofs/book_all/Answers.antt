@@ -25,7 +25,7 @@ product-requires c =
      in
     let value : to_z w64 (of_z w64 c.turned-q.result)
         ≡ turn c.args.up (get_or c.args.quantity.now c.loop-i.i (pos 0)) =     let q = size_still c.loop-i.invariant c.requires.0 c.requires.1 room.0 in
-        back _ c.turned-q.type_inv ∙ rw (back _ (search rules), q) at c.turned-q.ensures
+        back _ c.turned-q.type_inv ∙ rw (back (get_or c.loop-i.quantity c.loop-i.i (pos 0)) (search rules), q) at c.turned-q.ensures
      in
     let size : nat_abs (to_z w64 (of_z w64 c.turned-q.result)) ≤ position_most =     let n = get_or c.args.quantity.now c.loop-i.i (pos 0) in
         rw value (omega (arith, size-turn c.args.up n, c.requires.4.at c.loop-i.i))
@@ -42,7 +42,7 @@ minus-requires c =
      in
     let value : to_z w64 (of_z w64 c.turned-q.result)
         ≡ turn c.args.up (get_or c.args.quantity.now c.loop-i.i (pos 0)) =     let q = size_still c.loop-i.invariant c.requires.0 c.requires.1 room.0 in
-        back _ c.turned-q.type_inv ∙ rw (back _ (search rules), q) at c.turned-q.ensures
+        back _ c.turned-q.type_inv ∙ rw (back (get_or c.loop-i.quantity c.loop-i.i (pos 0)) (search rules), q) at c.turned-q.ensures
      in
     let size : nat_abs (to_z w64 (of_z w64 c.turned-q.result)) ≤ position_most =     let n = get_or c.args.quantity.now c.loop-i.i (pos 0) in
         rw value (omega (arith, size-turn c.args.up n, c.requires.4.at c.loop-i.i))
@@ -61,12 +61,12 @@ loop-i-preserved c =
      in
     let value : to_z w64 (of_z w64 c.turned-q.result)
         ≡ turn c.args.up (get_or c.args.quantity.now c.loop-i.i (pos 0)) =     let q = size_still c.loop-i.invariant c.requires.0 c.requires.1 room.0 in
-        back _ c.turned-q.type_inv ∙ rw (back _ (search rules), q) at c.turned-q.ensures
+        back _ c.turned-q.type_inv ∙ rw (back (get_or c.loop-i.quantity c.loop-i.i (pos 0)) (search rules), q) at c.turned-q.ensures
      in
     let l = c.loop-i in
     let p = position_still l.invariant c.requires.0 c.requires.1 room.0 in
     booking_next l.invariant c.requires.0 c.requires.1 room.0 _ _ _
-    (back _ c.minus.type_inv ∙ rw (back _ (search rules), p, value) at c.minus.ensures)
+    (back _ c.minus.type_inv ∙ rw (back (get_or c.loop-i.positions c.loop-i.i (pos 0)) (search rules), p, value) at c.minus.ensures)
     value
     (back _ c.product.type_inv ∙ rw value at c.product.ensures)
 

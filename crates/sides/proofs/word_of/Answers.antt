@@ -26,11 +26,11 @@ pub overflow_add-w : goal.overflow_add-w
 overflow_add-w c =
     let l = c.loop-i in
     let ps = c.args.positions.now in
-    let v = rw (back _ (search rules)) at c.mark_on.ensures in
+    let v = rw (back (get_or c.args.positions.now (c.loop-i.i - 1) (pos 0)) (search rules)) at c.mark_on.ensures in
     omega (arith, word-less (caused (side c.args.up 0)) ps l.i (omega arith) c.requires.0, v, bit_le (caused (side c.args.up 0) (get_or ps (l.i - 1) (pos 0))))
 
 pub loop-i-preserved : goal.loop-i-preserved
 loop-i-preserved c =
     let l = c.loop-i in
-    let v = rw (back _ (search rules)) at c.mark_on.ensures in
+    let v = rw (back (get_or c.args.positions.now (c.loop-i.i - 1) (pos 0)) (search rules)) at c.mark_on.ensures in
     (omega arith, omega (arith, v, word-step (caused (side c.args.up 0)) c.args.positions.now (l.i - 1) l.i (omega arith) (omega arith)))
