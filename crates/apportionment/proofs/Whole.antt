@@ -10,7 +10,6 @@ use lib.ListN
 use lib.ListN.{length, get_or, length-map, get_or-eq_default}
 use lib.Seq.{ext_get_or}
 use borrow.Author.Tests.{ltb-true, ltb-false}
-use Rattle.integers.specs.Lists.{sum}
 use Rattle.integers.proofs.Counts.{get_d_map, get_or-le-sum}
 use Rattle.largest_remainder.specs.Rule.{whole, fraction, spare, settled}
 use Rattle.largest_remainder.specs.Cuts.{above, IsCut}

@@ -1,5 +1,5 @@
 -- The causes of an hour and of a closing are those of their stages, and a stage without a cause gives the next what it counts on. Assumes nothing.
-use mathlib.Core.Path.{◌≡◌, refl, sym, ap, ◌∙◌}
+use mathlib.Core.Path.{◌≡◌, refl, sym, ◌∙◌}
 use mathlib.Core.Bool.{Bool, true, false, ◌&&◌, and_assoc}
 use mathlib.Core.List.{List}
 use Prim.Native.Nat.{ℕ, zero, suc}
@@ -11,7 +11,7 @@ use Rattle.integers.proofs.Tests.{and_true}
 use Rattle.rules.specs.declared.Day.{Day}
 use Rattle.rules.specs.declared.HourTerms.{HourTerms}
 use Rattle.rules.specs.Limits.{zone_fit}
-use Rattle.rules.specs.Days.{users, part}
+use Rattle.rules.specs.Days.{users}
 use Rattle.rules.specs.Hours.{Hour, Closing}
 use Rattle.rules.specs.Refusals.{unless, ◌then◌}
 use Rattle.rules.specs.Causes.{

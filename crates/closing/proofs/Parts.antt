@@ -11,7 +11,7 @@ use Rattle.integers.specs.Lists.{sumℤ, AtMost}
 use Rattle.integers.proofs.Passes.{every_take}
 use Rattle.rules.specs.declared.ClosingTerms.{ClosingTerms}
 use Rattle.rules.specs.Limits.{users_most, position_most, position_fit}
-use Rattle.rules.specs.Market.{moneys, sold, bought}
+use Rattle.rules.specs.Market.{moneys}
 use Rattle.rules.proofs.Small.{positions_small}
 use Rattle.rules.proofs.Zones.{part_h, part_l, with_h, with_l}
 use Rattle.closing.specs.Steps.{traded_of, Asks, PartLeaves, TableAsks, TableLeaves}

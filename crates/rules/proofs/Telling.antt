@@ -11,7 +11,6 @@ use Rattle.integers.proofs.Tests.{le_of_test, lt_of_test}
 use Rattle.rules.specs.declared.Marks.{Marks}
 use Rattle.rules.specs.declared.Side.{Side}
 use Rattle.rules.specs.declared.Side.TheVariants.{Excess, Shortfall}
-use Rattle.rules.specs.declared.Outcome.{Outcome}
 use Rattle.rules.specs.declared.Outcome.TheVariants.{Within, Settled}
 use Rattle.rules.specs.Market.{Imbalance, outcome}
 use Rattle.rules.specs.Guarantees.{OutcomeTells}

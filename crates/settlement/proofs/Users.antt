@@ -15,7 +15,7 @@ use Rattle.rules.specs.declared.HourTerms.{HourTerms}
 use Rattle.rules.specs.declared.Marks.{Marks}
 use Rattle.rules.specs.declared.Outcome.{Outcome}
 use Rattle.rules.specs.declared.Outcome.TheVariants.{Within}
-use Rattle.rules.specs.Market.{Imbalance, within, imbalance, total, caused, size, sizes, settled_sizes, signed, quantities, after, money_of, moneys, outcome}
+use Rattle.rules.specs.Market.{Imbalance, within, imbalance, caused, size, sizes, settled_sizes, signed, quantities, after, money_of, moneys, outcome}
 use Rattle.rules.proofs.Settling.{View, is_excess, is_shortfall, view, length-sizes, length-quantities, Shareable, share_excess, share_shortfall}
 use Rattle.positions.specs.Before.{befores}
 use Rattle.positions.proofs.Before.{length-befores}

@@ -15,7 +15,7 @@ use Rattle.largest_remainder.proofs.Guarantees.{no_more_than_size}
 use Rattle.rules.specs.Limits.{users_most, position_most, price_most}
 use Rattle.rules.specs.declared.HourTerms.{HourTerms}
 use Rattle.rules.specs.declared.Marks.{Marks}
-use Rattle.rules.specs.Market.{excess, shortfall, total, caused, size, sizes, settled_sizes, signed, quantities, after, money_of, moneys, marks, causers}
+use Rattle.rules.specs.Market.{total, caused, size, sizes, settled_sizes, signed, quantities, after, money_of, moneys, marks, causers}
 use Rattle.rules.proofs.Settling.{length-sizes, length-quantities}
 use Rattle.rules.proofs.Small.{positions_small, terms_small}
 use Rattle.sides.specs.Sides.{side, turn, price_on, Booked, SideAsks, SideLeaves}

@@ -1,9 +1,8 @@
 -- Rule 1's position, by its constructor. Assumes nothing.
 use mathlib.Core.Path.{refl, ap, ◌∙◌}
-use Rattle.integers.proofs.Machine.{read, read_le, back}
-use Rattle.rules.specs.Limits.{entry_most, exit_most, title_most, pooling_most, position_most, position_fit}
+use Rattle.integers.proofs.Machine.{read}
+use Rattle.rules.specs.Limits.{position_fit}
 use Rattle.ranges.proofs.Checked.{tested}
-use borrow.Author.Rules.{rules}
 use Rattle.amounts.proofs.before_fits.Goals as goal
 
 pub returns : goal.returns

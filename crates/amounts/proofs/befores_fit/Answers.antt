@@ -1,9 +1,8 @@
 -- The positions before settlement of the users passed so far are in range. Assumes nothing.
 use mathlib.Core.Path.{◌≡◌, sym, ap, ap₂, ◌∙◌}
 use mathlib.Core.Bool.{Bool, ◌&&◌}
-use Prim.Native.Nat.{◌-◌, ◌≤◌}
 use lib.IntN.{pos}
-use lib.ListN.{length, get_or, take}
+use lib.ListN.{get_or}
 use lib.Seq.{take_all}
 use Rattle.integers.specs.Lists.{every}
 use Rattle.integers.proofs.Machine.{back}
@@ -32,14 +31,14 @@ loop-i-preserved c =
     let a = c.args in
     -- the test of the user at i
     let tested : c.before_fits-before.result ≡ position_fit (get_or (befores a.part.now a.entry.now a.exit.now a.title.now a.pooling.now) l.i (pos 0)) =
-        rw (
-          back (get_or a.part.now l.i (pos 0)) (search rules),
-          back (get_or a.entry.now l.i (pos 0)) (search rules),
-          back (get_or a.exit.now l.i (pos 0)) (search rules),
-          back (get_or a.title.now l.i (pos 0)) (search rules),
-          back (get_or a.pooling.now l.i (pos 0)) (search rules),
-        ) at c.before_fits-before.ensures
-        ∙ ap position_fit (sym (befores_at a.part.now a.entry.now a.exit.now a.title.now a.pooling.now l.i (omega arith))) in
+    rw (
+      back (get_or a.part.now l.i (pos 0)) (search rules),
+      back (get_or a.entry.now l.i (pos 0)) (search rules),
+      back (get_or a.exit.now l.i (pos 0)) (search rules),
+      back (get_or a.title.now l.i (pos 0)) (search rules),
+      back (get_or a.pooling.now l.i (pos 0)) (search rules),
+    ) at c.before_fits-before.ensures
+    ∙ ap position_fit (sym (befores_at a.part.now a.entry.now a.exit.now a.title.now a.pooling.now l.i (omega arith))) in
     let ps = befores a.part.now a.entry.now a.exit.now a.title.now a.pooling.now in
     let long = length-befores a.part.now a.entry.now a.exit.now a.title.now a.pooling.now in (
       omega arith,

@@ -1,10 +1,9 @@
 -- A cut of `spare` lies between lo and hi: enough remainders are above lo, and `over` of them, no more than enough, above hi. Assumes nothing.
-use Prim.Native.Nat.{suc, ◌+◌, ◌-◌, ◌≤◌, ◌<◌}
+use Prim.Native.Nat.{suc, ◌+◌}
 use mathlib.Core.Path.{◌≡◌, sym}
 use Rattle.largest_remainder.specs.Cuts.{above, same}
 use Rattle.largest_remainder.proofs.Cuts.{above-suc}
 use Rattle.apportionment.proofs.Handing.{cut_begins}
-use borrow.Author.Rules.{rules}
 use native.Mathlib.Omega.{arith}
 use Rattle.apportionment.proofs.find_cut.Goals as goal
 

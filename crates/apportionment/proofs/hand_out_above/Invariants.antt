@@ -1,16 +1,9 @@
 -- The unit of a place is the top bit of `remainder + base`; the places below i are raised. Assumes nothing.
-use Prim.Native.Nat.{ℕ, ◌+◌, ◌-◌, ◌/◌, ◌≤◌, ◌<◌}
-use mathlib.Core.Path.{◌≡◌, sym, ◌∙◌}
-use lib.Dec.{ltb}
-use lib.IntN.{pos}
-use lib.ListN.{length, get_or}
-use Rattle.integers.specs.Lists.{bit}
-use Rattle.integers.proofs.Machine.{back, read_le}
-use Rattle.integers.proofs.Passes.{Written, written_none, written_elem, written_next, written_all}
+use Prim.Native.Nat.{◌+◌, ◌-◌, ◌≤◌}
+use mathlib.Core.Path.{◌≡◌}
+use lib.ListN.{length}
+use Rattle.integers.proofs.Passes.{Written}
 use Rattle.apportionment.specs.Steps.{raised_by}
-use Rattle.apportionment.proofs.Handing.{top_bit, bit-ltb-le, taken-above, raised_length, raised_at}
-use borrow.Author.Rules.{rules}
-use native.Mathlib.Omega.{arith}
 use Rattle.apportionment.proofs.hand_out_above.Given as goal
 
 abbrev pub invariant-loop-i : goal.invariant-loop-i

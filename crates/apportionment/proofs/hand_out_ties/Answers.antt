@@ -1,17 +1,16 @@
 -- The pass ends when as many units are handed out as there were spare, and then no later place gets one. Assumes nothing.
-use Prim.Native.Nat.{ℕ, ◌+◌, ◌-◌, ◌≤◌, ◌<◌}
+use Prim.Native.Nat.{ℕ, ◌≤◌, ◌<◌}
 use mathlib.Core.Path.{◌≡◌, sym, ap, ◌∙◌}
 use mathlib.Core.Bool.{◌&&◌, ◌||◌}
 use lib.Dec.{ltb, eqb}
 use lib.IntN.{pos}
-use lib.ListN.{length, get_or, take}
+use lib.ListN.{length, get_or}
 use Rattle.integers.specs.Lists.{bit, count, sum, tabulate}
 use Rattle.integers.proofs.Counts.{bit_le, count-step}
 use Rattle.integers.proofs.Machine.{back, read_le}
-use Rattle.integers.proofs.Passes.{Written, written_none, written_elem, written_next, written_rest}
-use Rattle.largest_remainder.specs.Cuts.{same, taken}
-use Rattle.apportionment.specs.Steps.{raised_by}
-use Rattle.apportionment.proofs.Handing.{taken-left, raised_length, raised_at, got, got-next, got-less, got_done}
+use Rattle.integers.proofs.Passes.{written_none, written_elem, written_next, written_rest}
+use Rattle.largest_remainder.specs.Cuts.{taken}
+use Rattle.apportionment.proofs.Handing.{taken-left, raised_length, raised_at, got-next, got-less, got_done}
 use borrow.Author.Rules.{rules}
 use native.Mathlib.Omega.{arith}
 use Rattle.apportionment.proofs.hand_out_ties.Goals as goal
@@ -23,54 +22,53 @@ loop-units-init c = (omega arith, omega arith, omega arith, written_none _ c.arg
 pub bounds-remainders-i : goal.bounds-remainders-i
 bounds-remainders-i c =
     let room : (c.loop-units.i < length c.args.remainders.now) × (length c.args.remainders.now ≡ length c.args.out.now)
-        × (length c.loop-units.out ≡ length c.args.out.now) = let a = c.args in
-        let l = c.loop-units in (
-          got-less a.remainders.now a.spare a.at a.ties c.requires.cut l.i (omega arith) l.invariant.0,
-          c.requires.long,
-          l.invariant.3.long,
-        )
-     in
+    × (length c.loop-units.out ≡ length c.args.out.now) = let a = c.args in
+    let l = c.loop-units in (
+      got-less a.remainders.now a.spare a.at a.ties c.requires.cut l.i (omega arith) l.invariant.0,
+      c.requires.long,
+      l.invariant.3.long,
+    )
+    in
     omega (arith, room)
 
 pub slice_copy_out-plus : goal.slice_copy_out-plus
 slice_copy_out-plus c =
     let room : (c.loop-units.i < length c.args.remainders.now) × (length c.args.remainders.now ≡ length c.args.out.now)
-        × (length c.loop-units.out ≡ length c.args.out.now) = let a = c.args in
-        let l = c.loop-units in (
-          got-less a.remainders.now a.spare a.at a.ties c.requires.cut l.i (omega arith) l.invariant.0,
-          c.requires.long,
-          l.invariant.3.long,
-        )
-     in
+    × (length c.loop-units.out ≡ length c.args.out.now) = let a = c.args in
+    let l = c.loop-units in (
+      got-less a.remainders.now a.spare a.at a.ties c.requires.cut l.i (omega arith) l.invariant.0,
+      c.requires.long,
+      l.invariant.3.long,
+    )
+    in
     omega (arith, room)
 
 pub plus-requires : goal.plus-requires
 plus-requires c =
     let room : (c.loop-units.i < length c.args.remainders.now) × (length c.args.remainders.now ≡ length c.args.out.now)
-        × (length c.loop-units.out ≡ length c.args.out.now) = let a = c.args in
-        let l = c.loop-units in (
-          got-less a.remainders.now a.spare a.at a.ties c.requires.cut l.i (omega arith) l.invariant.0,
-          c.requires.long,
-          l.invariant.3.long,
-        )
-     in
+    × (length c.loop-units.out ≡ length c.args.out.now) = let a = c.args in
+    let l = c.loop-units in (
+      got-less a.remainders.now a.spare a.at a.ties c.requires.cut l.i (omega arith) l.invariant.0,
+      c.requires.long,
+      l.invariant.3.long,
+    )
+    in
     let old : get_or c.loop-units.out c.loop-units.i (pos 0) ≡ get_or c.args.out.now c.loop-units.i (pos 0) = let a = c.args in
-        let l = c.loop-units in
-        written_elem _ a.out.now l.out l.i l.invariant.3 (raised_length a.remainders.now a.at a.ties a.out.now)
-        (pos 0) (omega (arith, room))
-     in
+    let l = c.loop-units in
+    written_elem _ a.out.now l.out l.i l.invariant.3 (raised_length a.remainders.now a.at a.ties a.out.now)
+    (pos 0) (omega (arith, room))
+    in
     let remainder : ℕ = get_or c.args.remainders.now c.loop-units.i 0
-     in
+    in
     let given : ℕ = bit (taken c.args.remainders.now c.args.at c.args.ties c.loop-units.i)
-     in
+    in
     let unit : (u : ℕ)
-        → u ≡ bit (ltb c.args.at remainder || eqb c.args.at remainder && ltb 0 c.loop-units.left)
-        → (u ≡ given) × (u ≤ 1) = λ u e. let a = c.args in
-        let l = c.loop-units in
-        let q = e ∙ sym (ap bit (taken-left a.remainders.now a.at a.ties l.left l.i l.invariant.1)) in
-        (q, omega (arith, q, bit_le (taken a.remainders.now a.at a.ties l.i)))
-     in
-    (
+    → u ≡ bit (ltb c.args.at remainder || eqb c.args.at remainder && ltb 0 c.loop-units.left)
+    → (u ≡ given) × (u ≤ 1) = λ u e. let a = c.args in
+    let l = c.loop-units in
+    let q = e ∙ sym (ap bit (taken-left a.remainders.now a.at a.ties l.left l.i l.invariant.1)) in
+    (q, omega (arith, q, bit_le (taken a.remainders.now a.at a.ties l.i)))
+    in (
       read_le (get_or c.loop-units.out c.loop-units.i (pos 0)) _ (rw old (c.requires.small c.loop-units.i)),
       omega (arith, unit _ c.unit_for-unit.ensures),
     )
@@ -78,53 +76,53 @@ plus-requires c =
 pub bounds-out-i : goal.bounds-out-i
 bounds-out-i c =
     let room : (c.loop-units.i < length c.args.remainders.now) × (length c.args.remainders.now ≡ length c.args.out.now)
-        × (length c.loop-units.out ≡ length c.args.out.now) = let a = c.args in
-        let l = c.loop-units in (
-          got-less a.remainders.now a.spare a.at a.ties c.requires.cut l.i (omega arith) l.invariant.0,
-          c.requires.long,
-          l.invariant.3.long,
-        )
-     in
+    × (length c.loop-units.out ≡ length c.args.out.now) = let a = c.args in
+    let l = c.loop-units in (
+      got-less a.remainders.now a.spare a.at a.ties c.requires.cut l.i (omega arith) l.invariant.0,
+      c.requires.long,
+      l.invariant.3.long,
+    )
+    in
     omega (arith, room)
 
 pub loop-units-smaller : goal.loop-units-smaller
 loop-units-smaller c =
     let room : (c.loop-units.i < length c.args.remainders.now) × (length c.args.remainders.now ≡ length c.args.out.now)
-        × (length c.loop-units.out ≡ length c.args.out.now) = let a = c.args in
-        let l = c.loop-units in (
-          got-less a.remainders.now a.spare a.at a.ties c.requires.cut l.i (omega arith) l.invariant.0,
-          c.requires.long,
-          l.invariant.3.long,
-        )
-     in
+    × (length c.loop-units.out ≡ length c.args.out.now) = let a = c.args in
+    let l = c.loop-units in (
+      got-less a.remainders.now a.spare a.at a.ties c.requires.cut l.i (omega arith) l.invariant.0,
+      c.requires.long,
+      l.invariant.3.long,
+    )
+    in
     omega (arith, room)
 
 pub loop-units-preserved : goal.loop-units-preserved
 loop-units-preserved c =
     let room : (c.loop-units.i < length c.args.remainders.now) × (length c.args.remainders.now ≡ length c.args.out.now)
-        × (length c.loop-units.out ≡ length c.args.out.now) = let a = c.args in
-        let l = c.loop-units in (
-          got-less a.remainders.now a.spare a.at a.ties c.requires.cut l.i (omega arith) l.invariant.0,
-          c.requires.long,
-          l.invariant.3.long,
-        )
-     in
+    × (length c.loop-units.out ≡ length c.args.out.now) = let a = c.args in
+    let l = c.loop-units in (
+      got-less a.remainders.now a.spare a.at a.ties c.requires.cut l.i (omega arith) l.invariant.0,
+      c.requires.long,
+      l.invariant.3.long,
+    )
+    in
     let old : get_or c.loop-units.out c.loop-units.i (pos 0) ≡ get_or c.args.out.now c.loop-units.i (pos 0) = let a = c.args in
-        let l = c.loop-units in
-        written_elem _ a.out.now l.out l.i l.invariant.3 (raised_length a.remainders.now a.at a.ties a.out.now)
-        (pos 0) (omega (arith, room))
-     in
+    let l = c.loop-units in
+    written_elem _ a.out.now l.out l.i l.invariant.3 (raised_length a.remainders.now a.at a.ties a.out.now)
+    (pos 0) (omega (arith, room))
+    in
     let remainder : ℕ = get_or c.args.remainders.now c.loop-units.i 0
-     in
+    in
     let given : ℕ = bit (taken c.args.remainders.now c.args.at c.args.ties c.loop-units.i)
-     in
+    in
     let unit : (u : ℕ)
-        → u ≡ bit (ltb c.args.at remainder || eqb c.args.at remainder && ltb 0 c.loop-units.left)
-        → (u ≡ given) × (u ≤ 1) = λ u e. let a = c.args in
-        let l = c.loop-units in
-        let q = e ∙ sym (ap bit (taken-left a.remainders.now a.at a.ties l.left l.i l.invariant.1)) in
-        (q, omega (arith, q, bit_le (taken a.remainders.now a.at a.ties l.i)))
-     in
+    → u ≡ bit (ltb c.args.at remainder || eqb c.args.at remainder && ltb 0 c.loop-units.left)
+    → (u ≡ given) × (u ≤ 1) = λ u e. let a = c.args in
+    let l = c.loop-units in
+    let q = e ∙ sym (ap bit (taken-left a.remainders.now a.at a.ties l.left l.i l.invariant.1)) in
+    (q, omega (arith, q, bit_le (taken a.remainders.now a.at a.ties l.i)))
+    in
     let l = c.loop-units in
     let a = c.args in
     let r = a.remainders.now in

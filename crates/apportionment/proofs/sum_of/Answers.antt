@@ -1,8 +1,5 @@
 -- The sum of the sizes passed so far is within the sum of all. Assumes nothing.
-use Prim.Native.Nat.{◌+◌, ◌-◌, ◌≤◌}
-use mathlib.Core.Path.{◌≡◌, ap, ◌∙◌}
-use lib.ListN.{length, take}
-use lib.Seq.{take_all}
+use Prim.Native.Nat.{◌+◌}
 use Rattle.integers.specs.Lists.{sum}
 use Rattle.integers.proofs.Counts.{sum_step, sum-take-le}
 use borrow.Author.Rules.{rules}

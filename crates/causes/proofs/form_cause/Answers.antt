@@ -2,7 +2,6 @@
 use Rattle.rules.specs.Causes.{zone_open}
 use Rattle.causes.specs.Steps.{form_cause}
 use Rattle.integers.proofs.Machine.{read}
-use borrow.Author.Rules.{rules}
 use Rattle.causes.proofs.form_cause.Goals as goal
 
 pub returns : goal.returns

@@ -1,7 +1,6 @@
 -- The tests in turn. Assumes nothing.
 use Rattle.rules.specs.Causes.{table_long, open_cause}
 use Rattle.integers.proofs.Machine.{read}
-use borrow.Author.Rules.{rules}
 use Rattle.causes.proofs.open_cause.Goals as goal
 
 pub returns : goal.returns

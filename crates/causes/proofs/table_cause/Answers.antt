@@ -1,6 +1,5 @@
 -- The tests in turn. Assumes nothing.
 use Rattle.causes.specs.Steps.{table_cause}
-use borrow.Author.Rules.{rules}
 use Rattle.causes.proofs.table_cause.Goals as goal
 
 pub returns : goal.returns

@@ -5,15 +5,14 @@ use lib.ListN.{length}
 use Rattle.integers.proofs.Machine.{read, back, read_le, fits}
 use Rattle.rules.specs.Limits.{price_most}
 use Rattle.rules.proofs.Small.{prices_small}
-use Rattle.closing.proofs.Parts.{copy_asked, quantity_asked, money_asked, part_left}
-use borrow.Author.Rules.{rules}
+use Rattle.closing.proofs.Parts.{quantity_asked, money_asked, part_left}
 use native.Mathlib.Omega.{arith}
 use Rattle.closing.proofs.close_part.Goals as goal
 
 pub money_all-requires : goal.money_all-requires
 money_all-requires c =
     let count : length c.args.quantity.now - 0 ≡ length c.args.quantity.now = omega arith
-     in
+    in
     let k = c.args.terms in
     let b = prices_small _ _ c.requires.prices in
     let e = read_le k.excess_price price_most b.excess in
@@ -27,19 +26,19 @@ money_all-requires c =
 pub traded_all-sold-requires : goal.traded_all-sold-requires
 traded_all-sold-requires c =
     let count : length c.args.quantity.now - 0 ≡ length c.args.quantity.now = omega arith
-     in
+    in
     quantity_asked c.requires _ count _ c.copy_all.ensures
 
 pub traded_all-bought-requires : goal.traded_all-bought-requires
 traded_all-bought-requires c =
     let count : length c.args.quantity.now - 0 ≡ length c.args.quantity.now = omega arith
-     in
+    in
     quantity_asked c.requires _ count _ c.copy_all.ensures
 
 pub returns : goal.returns
 returns c =
     let count : length c.args.quantity.now - 0 ≡ length c.args.quantity.now = omega arith
-     in
+    in
     let k = c.args.terms in
     let b = prices_small _ _ c.requires.prices in
     let e = read (fits k.excess_price (omega (arith, b.excess))) in

@@ -1,10 +1,8 @@
 -- Each turn copies one position. Assumes nothing.
 use mathlib.Core.Path.{sym}
-use Prim.Native.Nat.{◌-◌, ◌≤◌}
 use lib.IntN.{pos}
-use lib.ListN.{length}
 use Rattle.integers.proofs.Machine.{back}
-use Rattle.integers.proofs.Passes.{Written, written_none, written_next, written_all}
+use Rattle.integers.proofs.Passes.{written_next}
 use borrow.Author.Rules.{rules}
 use native.Mathlib.Omega.{arith}
 use Rattle.closing.proofs.copy_all.Goals as goal

@@ -1,10 +1,7 @@
 -- By the sign, at the side's price. Assumes nothing.
 use mathlib.Core.Path.{◌∙◌}
-use native.Mathlib.Nat.{mul-le-mul}
-use Rattle.integers.proofs.Machine.{read, back, read_le}
-use Rattle.rules.specs.Limits.{position_most, price_most}
+use Rattle.integers.proofs.Machine.{read, back}
 use Rattle.rules.specs.Market.{money_of}
-use native.Mathlib.Omega.{arith}
 use Rattle.closing.proofs.money_of.Goals as goal
 
 pub returns-then-quantity-gt0 : goal.returns-then-quantity-gt0

@@ -1,9 +1,7 @@
 -- By the kind. Assumes nothing.
 use mathlib.Core.Path.{ap, ◌∙◌}
-use Rattle.integers.proofs.Machine.{read, back, read_le}
-use Rattle.rules.specs.Limits.{position_most}
+use Rattle.integers.proofs.Machine.{read, back}
 use Rattle.closing.specs.Steps.{sold_of, bought_of, traded_of}
-use borrow.Author.Rules.{rules}
 use Rattle.closing.proofs.traded_of.Goals as goal
 
 pub returns-then-sale : goal.returns-then-sale

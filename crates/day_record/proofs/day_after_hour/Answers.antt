@@ -6,7 +6,6 @@ use Rattle.integers.specs.Ranges.{is_zero}
 use Rattle.integers.proofs.Machine.{read}
 use Rattle.rules.specs.Days.{zone_day, hours_done, with_zone_day, day_after_hour}
 use Rattle.day_record.proofs.Records.{hours_few}
-use borrow.Author.Rules.{rules}
 use Rattle.day_record.proofs.day_after_hour.Goals as goal
 
 pub hour_more-requires : goal.hour_more-requires
@@ -21,7 +20,7 @@ pub returns-then-is_zero : goal.returns-then-is_zero
 unfolding day_after_hour with_zone_day
 returns-then-is_zero c =
     let tested : (b : Bool) → c.is_zero.result ≡ b → is_zero c.args.zone ≡ b = λ b e. sym (ap is_zero (read c.ranges.zone)) ∙ sym c.is_zero.ensures ∙ e
-     in
+    in
     rw (
       c.with_zones.ensures,
       c.hour_more.ensures,
@@ -32,7 +31,7 @@ pub returns-else-is_zero : goal.returns-else-is_zero
 unfolding day_after_hour with_zone_day
 returns-else-is_zero c =
     let tested : (b : Bool) → c.is_zero.result ≡ b → is_zero c.args.zone ≡ b = λ b e. sym (ap is_zero (read c.ranges.zone)) ∙ sym c.is_zero.ensures ∙ e
-     in
+    in
     rw (
       c.with_zones-else-is_zero.ensures,
       c.hour_more-else-is_zero.ensures,

@@ -4,7 +4,6 @@ use Rattle.rules.specs.declared.ZoneDay.{ZoneDay}
 use Rattle.day_record.proofs.Records.{zone_h, zone_l}
 use Rattle.rules.specs.Days.{is_closed}
 use Rattle.integers.proofs.Machine.{read}
-use borrow.Author.Rules.{rules}
 use Rattle.day_record.proofs.is_closed.Goals as goal
 
 pub returns-then-is_zero : goal.returns-then-is_zero

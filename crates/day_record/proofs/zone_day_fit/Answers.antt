@@ -1,7 +1,6 @@
 -- The tests in turn. Assumes nothing.
 use Rattle.rules.specs.Causes.{zone_day_fit}
 use Rattle.integers.proofs.Machine.{read, back}
-use borrow.Author.Rules.{rules}
 use Rattle.day_record.proofs.zone_day_fit.Goals as goal
 
 pub returns : goal.returns

@@ -8,20 +8,20 @@ use Rattle.gas_day.proofs.close_zone.Goals as goal
 pub returns-then-cause-ne0 : goal.returns-then-cause-ne0
 returns-then-cause-ne0 c =
     let given : Closing = let a = c.args in closing_given a.terms a.quantity.now a.money.now
-     in
+    in
     rw c.refusal.ensures
     (refused _ _ given _ c.closing_cause-cause.ensures c.if-cause-ne0.true)
 
 pub close_table-sums-requires : goal.close_table-sums-requires
 close_table-sums-requires c =
     let given : Closing = let a = c.args in closing_given a.terms a.quantity.now a.money.now
-     in
+    in
     asks _ _ given _ c.closing_cause-cause.ensures c.if-cause-ne0.false
 
 pub returns : goal.returns
 returns c =
     let given : Closing = let a = c.args in closing_given a.terms a.quantity.now a.money.now
-     in
+    in
     let sums = c.close_table-sums.result in
     rw (back sums.sold (search rules), back sums.bought (search rules))
     (done _ _ given _ c.closing_cause-cause.ensures c.if-cause-ne0.false _ _ _ _ _ _ c.close_table-sums.ensures

@@ -1,15 +1,11 @@
 -- The elements passed so far are in range. Assumes nothing.
-use mathlib.Core.Path.{◌≡◌, sym, ap, ap₂, ◌∙◌}
+use mathlib.Core.Path.{◌≡◌, sym, ap₂, ◌∙◌}
 use mathlib.Core.Bool.{Bool, ◌&&◌}
-use Prim.Native.Nat.{◌-◌, ◌≤◌}
 use lib.IntN.{pos}
-use lib.ListN.{length, get_or, take}
-use lib.Seq.{take_all}
+use lib.ListN.{get_or}
 use mir.Syntax.{w64}
 use mir.Val.{to_z, of_z}
-use Rattle.integers.specs.Ranges.{in_range}
 use Rattle.integers.specs.Lists.{every}
-use Rattle.integers.proofs.Machine.{read, back}
 use Rattle.integers.proofs.Passes.{every-step}
 use borrow.Author.Rules.{rules}
 use native.Mathlib.Omega.{arith}

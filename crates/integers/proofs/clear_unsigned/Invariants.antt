@@ -1,9 +1,7 @@
 -- Each turn writes a zero. Assumes nothing.
 use Prim.Native.Nat.{◌-◌, ◌≤◌}
-use native.Mathlib.Omega.{arith}
-use borrow.Author.Rules.{rules}
 use lib.ListN.{length, replicate}
-use Rattle.integers.proofs.Passes.{Written, written_none, filled_next, filled_all}
+use Rattle.integers.proofs.Passes.{Written}
 use Rattle.integers.proofs.clear_unsigned.Given as goal
 
 abbrev pub invariant-loop-i : goal.invariant-loop-i

@@ -1,8 +1,7 @@
 -- By the sign. Assumes nothing.
 use mathlib.Core.Path.{sym}
-use native.Mathlib.Omega.{arith}
-use Rattle.integers.proofs.Machine.{read, fits-size}
-use Rattle.integers.proofs.Tests.{not_negative, natural-negative, natural-size}
+use Rattle.integers.proofs.Machine.{read}
+use Rattle.integers.proofs.Tests.{natural-negative, natural-size}
 use Rattle.integers.proofs.natural.Goals as goal
 
 pub returns-then-x-lt0 : goal.returns-then-x-lt0

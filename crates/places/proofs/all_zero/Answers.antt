@@ -1,5 +1,5 @@
 -- The bits of the places passed so far, by `or`. Assumes nothing.
-use Rattle.std.proofs.Common.{◌≡◌, ◌∙◌, ap, refl, arith, rules, ℕ, bit_or, get_or, length, take, pos}
+use Rattle.std.proofs.Common.{◌≡◌, ◌∙◌, ap, refl, arith, rules, bit_or, get_or, take, pos}
 use lib.Dec.{eqb}
 use lib.Seq.{take_all}
 use mir.Syntax.{w64}

@@ -1,6 +1,5 @@
 -- By the zone. Assumes nothing.
 use mathlib.Core.Path.{◌∙◌, sym}
-use borrow.Author.Rules.{rules}
 use Rattle.integers.proofs.Machine.{read}
 use Rattle.rules.specs.Days.{first_place}
 use Rattle.places.proofs.first_place.Goals as goal

@@ -1,13 +1,11 @@
 -- Part by part. Assumes nothing.
 use mathlib.Core.Path.{◌≡◌, sym, ◌∙◌}
 use native.Mathlib.Omega.{arith}
-use borrow.Author.Tests.{not-true, not-false}
 use lib.IntN.{pos}
 use lib.ListN.{length-take, length-drop}
 use Rattle.rules.specs.Days.{first_place, part}
 use Rattle.places.specs.Live.{live_places, part_fit}
 use Rattle.places.proofs.Tables.{live_le, table_parts}
-use borrow.Author.Rules.{rules}
 use Rattle.places.proofs.table_fit.Goals as goal
 
 pub part_fit-requires : goal.part_fit-requires
@@ -19,8 +17,8 @@ pub returns-then-not-part_fit : goal.returns-then-not-part_fit
 unfolding part first_place
 returns-then-not-part_fit c =
     let part_h : let a = c.args in
-        c.part_fit.result ≡ part_fit (live_places (pos 0) a.day) (part (pos 0) a.table.now) = rw c.live_places-h.ensures at c.part_fit.ensures
-     in
+    c.part_fit.result ≡ part_fit (live_places (pos 0) a.day) (part (pos 0) a.table.now) = rw c.live_places-h.ensures at c.part_fit.ensures
+    in
     rw (
       ← table_parts c.args.day c.args.table.now c.requires.long,
       sym part_h ∙ c.if-not-part_fit.true,
@@ -32,11 +30,11 @@ part_fit-requires-2 c =
     (omega (arith, c.live_places-l.ensures, live_le (pos 1) c.args.day, c.requires.few, c.requires.long))
 
 pub returns : goal.returns
-unfolding part first_place 
+unfolding part first_place
 returns c =
     let part_h : let a = c.args in
-        c.part_fit.result ≡ part_fit (live_places (pos 0) a.day) (part (pos 0) a.table.now) = rw c.live_places-h.ensures at c.part_fit.ensures
-     in
+    c.part_fit.result ≡ part_fit (live_places (pos 0) a.day) (part (pos 0) a.table.now) = rw c.live_places-h.ensures at c.part_fit.ensures
+    in
     rw (
       ← table_parts c.args.day c.args.table.now c.requires.long,
       sym part_h ∙ c.if-not-part_fit.false,

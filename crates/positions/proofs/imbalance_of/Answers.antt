@@ -1,5 +1,4 @@
 -- Thresholds and market are read as they are, and are small. Assumes nothing.
-use mathlib.Core.Path.{◌≡◌}
 use Prim.Native.Nat.{◌≤◌}
 use lib.IntN.{nat_abs}
 use mir.Syntax.{w64}
@@ -8,34 +7,33 @@ use Rattle.integers.proofs.Machine.{read, read_le, fits}
 use Rattle.rules.specs.Limits.{market_most}
 use Rattle.rules.specs.Market.{imbalance_of}
 use Rattle.rules.proofs.Small.{terms_small}
-use borrow.Author.Rules.{rules}
 use native.Mathlib.Omega.{arith}
 use Rattle.positions.proofs.imbalance_of.Goals as goal
 
 pub gap-requires : goal.gap-requires
 gap-requires c = let f =
     let small : (nat_abs (to_z w64 (of_z w64 c.args.terms.upper)) ≤ market_most)
-        × (nat_abs (to_z w64 (of_z w64 c.args.terms.lower)) ≤ market_most)
-        × (nat_abs (to_z w64 (of_z w64 c.args.market)) ≤ market_most) = let t = c.args.terms in
-        let k = terms_small t c.requires.0 in (
-          read_le t.upper market_most (omega (arith, k.upper)),
-          read_le t.lower market_most (omega (arith, k.lower)),
-          read_le c.args.market market_most c.requires.1,
-        )
-     in
+    × (nat_abs (to_z w64 (of_z w64 c.args.terms.lower)) ≤ market_most)
+    × (nat_abs (to_z w64 (of_z w64 c.args.market)) ≤ market_most) = let t = c.args.terms in
+    let k = terms_small t c.requires.0 in (
+      read_le t.upper market_most (omega (arith, k.upper)),
+      read_le t.lower market_most (omega (arith, k.lower)),
+      read_le c.args.market market_most c.requires.1,
+    )
+    in
     small in (omega (arith, f), omega (arith, f))
 
 pub gap-requires-2 : goal.gap-requires-2
 gap-requires-2 c = let f =
     let small : (nat_abs (to_z w64 (of_z w64 c.args.terms.upper)) ≤ market_most)
-        × (nat_abs (to_z w64 (of_z w64 c.args.terms.lower)) ≤ market_most)
-        × (nat_abs (to_z w64 (of_z w64 c.args.market)) ≤ market_most) = let t = c.args.terms in
-        let k = terms_small t c.requires.0 in (
-          read_le t.upper market_most (omega (arith, k.upper)),
-          read_le t.lower market_most (omega (arith, k.lower)),
-          read_le c.args.market market_most c.requires.1,
-        )
-     in
+    × (nat_abs (to_z w64 (of_z w64 c.args.terms.lower)) ≤ market_most)
+    × (nat_abs (to_z w64 (of_z w64 c.args.market)) ≤ market_most) = let t = c.args.terms in
+    let k = terms_small t c.requires.0 in (
+      read_le t.upper market_most (omega (arith, k.upper)),
+      read_le t.lower market_most (omega (arith, k.lower)),
+      read_le c.args.market market_most c.requires.1,
+    )
+    in
     small in (omega (arith, f), omega (arith, f))
 
 pub returns : goal.returns

@@ -1,10 +1,4 @@
 -- The sum of the elements passed so far. Assumes nothing.
-use mathlib.Core.Path.{◌≡◌, ap, ◌∙◌}
-use Prim.Native.Nat.{◌-◌, ◌≤◌}
-use lib.ListN.{length, take}
-use lib.Seq.{take_all}
-use mir.Syntax.{w64}
-use mir.Val.{to_z}
 use Rattle.integers.specs.Lists.{sumℤ}
 use Rattle.integers.proofs.Machine.{back}
 use Rattle.integers.proofs.Passes.{added-fits, added_next}

@@ -4,7 +4,6 @@ use mathlib.Core.Bool.{◌&&◌}
 use Rattle.rules.specs.Limits.{price_fit}
 use Rattle.rules.specs.Causes.{prices_fit}
 use Rattle.ranges.proofs.Checked.{tested}
-use borrow.Author.Rules.{rules}
 use Rattle.ranges.proofs.prices_fit.Goals as goal
 
 pub returns : goal.returns

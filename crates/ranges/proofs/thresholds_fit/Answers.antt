@@ -3,7 +3,6 @@ use mathlib.Core.Path.{refl, ap₂, ◌∙◌}
 use mathlib.Core.Bool.{◌&&◌}
 use Rattle.rules.specs.Limits.{upper_fit, lower_fit}
 use Rattle.ranges.proofs.Checked.{tested}
-use borrow.Author.Rules.{rules}
 use Rattle.ranges.proofs.thresholds_fit.Goals as goal
 
 pub returns : goal.returns

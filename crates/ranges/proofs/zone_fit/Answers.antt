@@ -1,7 +1,6 @@
 -- By its limits. Assumes nothing.
 use Rattle.rules.specs.Limits.{zone_fit}
 use Rattle.integers.proofs.Machine.{read}
-use borrow.Author.Rules.{rules}
 use Rattle.ranges.proofs.zone_fit.Goals as goal
 
 pub returns : goal.returns

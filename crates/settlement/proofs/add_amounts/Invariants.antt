@@ -1,14 +1,8 @@
 -- Each turn writes a position before. Assumes nothing.
-use mathlib.Core.Path.{◌≡◌, sym, ◌∙◌}
 use Prim.Native.Nat.{◌-◌, ◌≤◌}
-use lib.IntN.{pos}
-use lib.ListN.{length, get_or}
-use Rattle.integers.proofs.Machine.{back}
-use Rattle.integers.proofs.Passes.{Written, written_none, written_elem, written_next, written_all, read_elem, read_still}
-use Rattle.positions.specs.Before.{before_at, befores}
-use Rattle.positions.proofs.Before.{few, length-befores, befores_at}
-use borrow.Author.Rules.{rules}
-use native.Mathlib.Omega.{arith}
+use lib.ListN.{length}
+use Rattle.integers.proofs.Passes.{Written}
+use Rattle.positions.specs.Before.{befores}
 use Rattle.settlement.proofs.add_amounts.Given as goal
 
 abbrev pub invariant-loop-i : goal.invariant-loop-i

@@ -11,23 +11,23 @@ use Rattle.settlement.proofs.settle_table.Goals as goal
 pub settle_zone-requires : goal.settle_zone-requires
 settle_zone-requires c =
     let tested : (b : Bool) → c.is_zero.result ≡ b → is_zero c.args.terms.zone ≡ b = λ b e. sym (ap is_zero (back c.args.terms.zone (search rules))) ∙ sym c.is_zero.ensures ∙ e
-     in
+    in
     rw (part_h _ _ (tested _ c.if-is_zero.true)) at c.requires.lists
 
 pub settle_zone-requires-else-is_zero : goal.settle_zone-requires-else-is_zero
 settle_zone-requires-else-is_zero c =
     let tested : (b : Bool) → c.is_zero.result ≡ b → is_zero c.args.terms.zone ≡ b = λ b e. sym (ap is_zero (back c.args.terms.zone (search rules))) ∙ sym c.is_zero.ensures ∙ e
-     in
+    in
     rw (part_l _ _ (tested _ c.if-is_zero.false)) at c.requires.lists
 
 pub returns-then-is_zero : goal.returns-then-is_zero
 returns-then-is_zero c =
     let tested : (b : Bool) → c.is_zero.result ≡ b → is_zero c.args.terms.zone ≡ b = λ b e. sym (ap is_zero (back c.args.terms.zone (search rules))) ∙ sym c.is_zero.ensures ∙ e
-     in
+    in
     left_h _ _ _ _ _ _ _ _ _ _ _ _ (tested _ c.if-is_zero.true) c.settle_zone.ensures
 
 pub returns-else-is_zero : goal.returns-else-is_zero
 returns-else-is_zero c =
     let tested : (b : Bool) → c.is_zero.result ≡ b → is_zero c.args.terms.zone ≡ b = λ b e. sym (ap is_zero (back c.args.terms.zone (search rules))) ∙ sym c.is_zero.ensures ∙ e
-     in
+    in
     left_l _ _ _ _ _ _ _ _ _ _ _ _ (tested _ c.if-is_zero.false) c.settle_zone-else-is_zero.ensures

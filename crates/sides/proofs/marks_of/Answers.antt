@@ -1,8 +1,6 @@
 -- The first word holds the first 64 positions, or all of them. Assumes nothing.
-use Prim.Native.Nat.{◌-◌, ◌≤◌}
-use lib.Count.{ones}
-use Rattle.sides.proofs.Words.{low_asked, high_asked, ones_small, marks_are}
-use borrow.Author.Rules.{rules}
+use Prim.Native.Nat.{◌-◌}
+use Rattle.sides.proofs.Words.{marks_are}
 use native.Mathlib.Omega.{arith}
 use Rattle.sides.proofs.marks_of.Goals as goal
 

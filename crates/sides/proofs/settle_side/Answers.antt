@@ -24,13 +24,13 @@ apportion-requires c =
 pub book_all-requires : goal.book_all-requires
 book_all-requires c =
     let price : let a = c.args in to_z w64 (of_z w64 c.price_on.result) ≡ price_on a.up a.terms = back _ c.price_on.type_inv ∙ c.price_on.ensures
-     in
+    in
     let b = book_asked c.requires _ c.size_all.ensures _ c.apportion.ensures.shares in
     (b.0, b.1, rw price (price_small c.requires _ c.size_all.ensures _ c.apportion.ensures.shares), b.2, b.3)
 
 pub returns : goal.returns
 returns c =
     let price : let a = c.args in to_z w64 (of_z w64 c.price_on.result) ≡ price_on a.up a.terms = back _ c.price_on.type_inv ∙ c.price_on.ensures
-     in
+    in
     side_left c.requires _ c.size_all.ensures _ c.apportion.ensures.shares _ _ _ _ _ (rw price at c.book_all.ensures)
     c.apportion.ensures.cleared (search rules) c.marks_of-marked.ensures

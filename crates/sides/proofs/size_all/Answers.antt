@@ -1,12 +1,10 @@
 -- Each turn writes a size. Assumes nothing.
 use mathlib.Core.Path.{sym, ◌∙◌}
-use Prim.Native.Nat.{◌-◌, ◌≤◌}
-use mathlib.Core.List.{map}
 use lib.IntN.{pos}
-use lib.ListN.{length, length-map, get_or}
+use lib.ListN.{length-map, get_or}
 use Rattle.integers.proofs.Machine.{back}
 use Rattle.integers.proofs.Counts.{get_d_map}
-use Rattle.integers.proofs.Passes.{Written, written_none, written_next, written_all, read_elem}
+use Rattle.integers.proofs.Passes.{written_next}
 use Rattle.rules.specs.Market.{size}
 use Rattle.sides.specs.Sides.{side}
 use borrow.Author.Rules.{rules}

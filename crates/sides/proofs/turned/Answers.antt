@@ -1,10 +1,8 @@
 -- By the side. Assumes nothing.
 use mathlib.Core.Path.{ap, ◌∙◌}
 use lib.IntN.{neg_ℤ}
-use Rattle.integers.proofs.Machine.{read, back, read_le, fits}
-use Rattle.rules.specs.Limits.{position_most}
+use Rattle.integers.proofs.Machine.{read, back}
 use Rattle.sides.specs.Sides.{turn}
-use native.Mathlib.Omega.{arith}
 use Rattle.sides.proofs.turned.Goals as goal
 
 pub returns-then-up : goal.returns-then-up

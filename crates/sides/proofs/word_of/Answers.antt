@@ -1,14 +1,11 @@
 -- The word of the positions from i on. Assumes nothing.
-use mathlib.Core.Path.{◌≡◌}
-use Prim.Native.Nat.{◌-◌, ◌≤◌}
-use mathlib.Core.List.{map}
+use Prim.Native.Nat.{◌-◌}
 use native.Mathlib.Nat.{le_refl}
 use lib.IntN.{pos}
-use lib.ListN.{length, drop, get_or}
+use lib.ListN.{get_or}
 use Rattle.integers.proofs.Machine.{back}
 use Rattle.integers.proofs.Counts.{bit_le}
-use Rattle.integers.proofs.Passes.{read_elem}
-use Rattle.rules.specs.Market.{caused, word}
+use Rattle.rules.specs.Market.{caused}
 use Rattle.sides.specs.Sides.{side}
 use Rattle.sides.proofs.Words.{word_none, word-step, word-less}
 use borrow.Author.Rules.{rules}

@@ -1,6 +1,5 @@
 -- The tests in turn. Assumes nothing.
 use Rattle.causes.specs.Steps.{amounts_long}
-use borrow.Author.Rules.{rules}
 use Rattle.causes.proofs.checks.amounts_long.Goals as goal
 
 pub returns : goal.returns

@@ -1,5 +1,4 @@
 -- Each branch by what the range test answered. Assumes nothing.
-use borrow.Author.Rules.{rules}
 use Rattle.integers.proofs.Machine.{read}
 use Rattle.rules.specs.Limits.{position_fit}
 use Rattle.ranges.specs.Kinds.{only_if}
