@@ -8,7 +8,7 @@ use lib.IntN.{ℤ}
 use lib.ListN.{length, drop, length-append, drop_of_length-le}
 use lib.Seq.{drop-cons}
 use Rattle.integers.specs.Lists.{tabulate}
-use Rattle.integers.proofs.Counts.{length-tabulate, get_d_tabulate}
+use Rattle.integers.proofs.Counts.{length-tabulate, get_or-tabulate}
 use Rattle.text.specs.Bytes.{line_end}
 use Rattle.text.specs.Puts.{Put}
 use Rattle.text.proofs.Puts.{put_length, together, Writing, writing_starts, part-fits, part_written, writing_ends}
@@ -42,7 +42,7 @@ module _ (h z : ℕ) (a b c d : List ℤ) where
   from_next : (i : ℕ) → i < length a → from i ≡ line (row_at h z a b c d i) ∷ from (i + 1)
   from_next i k =
       let l : i < length rows = rw (length-tabulate (row_at h z a b c d) (length a)) k in
-      rw (add-one, drop-cons rows i (row_at h z a b c d i) l, get_d_tabulate (row_at h z a b c d) (length a) i (row_at h z a b c d i) k)
+      rw (add-one, drop-cons rows i (row_at h z a b c d i) l, get_or-tabulate (row_at h z a b c d) (length a) i (row_at h z a b c d i) k)
 
   from_end : (i : ℕ) → length a ≤ i → from i ≡ []
   from_end i k =

@@ -13,7 +13,7 @@ use lib.ListN.{length, get_or, take, drop, length-drop}
 use lib.Seq.{ext_get_or, get_or-drop}
 use borrow.Author.Tests.{ltb-true, ltb-false}
 use Rattle.integers.specs.Lists.{bit, sum, tabulate}
-use Rattle.integers.proofs.Counts.{bit-ltb, length-tabulate, get_d_tabulate}
+use Rattle.integers.proofs.Counts.{bit-ltb, length-tabulate, get_or-tabulate}
 use Rattle.largest_remainder.specs.Cuts.{same, IsCut, taken}
 use Rattle.apportionment.specs.Steps.{raised_by, CutAsks}
 use Rattle.largest_remainder.proofs.Cuts.{above_mono, ltb_iff, taken-sum}
@@ -56,7 +56,7 @@ module _ (rs : List ℕ) (at ties : ℕ) (old : List ℤ) where
 
   pub raised_at : (i : ℕ) → i < length old → get_or (raised_by rs at ties old) i (pos 0) ≡ get_or old i (pos 0) +ℤ pos (bit (taken rs at ties i))
   unfolding raised_by
-  raised_at i h = get_d_tabulate _ (length old) i (pos 0) h
+  raised_at i h = get_or-tabulate _ (length old) i (pos 0) h
 
 -- ---- a pass that ends with the last unit
 

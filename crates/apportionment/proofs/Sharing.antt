@@ -9,7 +9,7 @@ use lib.IntN.{ℤ, pos}
 use lib.ListN.{length, get_or, take, set, length-map}
 use lib.Seq.{take_all}
 use Rattle.integers.specs.Lists.{count, sum}
-use Rattle.integers.proofs.Counts.{bit-ltb, count-step, sum_step, sum-take-le, sum-le, get_d_map}
+use Rattle.integers.proofs.Counts.{bit-ltb, count-step, sum_step, sum-take-le, sum-le, get_or-map_at}
 use Rattle.integers.proofs.Passes.{Written, written_none, written_elem, written_next, written_all}
 use Rattle.largest_remainder.specs.Rule.{whole, fraction}
 use Rattle.largest_remainder.specs.Cuts.{above}
@@ -87,7 +87,7 @@ module _ {sizes : List ℕ} {total : ℕ} {old : List ℤ} {rs : List ℕ} {out 
           arith,
           s.sum,
           e,
-          get_d_map (whole sizes total) sizes i 0 0 l,
+          get_or-map_at (whole sizes total) sizes i 0 0 l,
           sum_step ws i (omega (arith, wholes_long sizes total)),
           sum-take-le ws (i + 1),
           wholes_le sizes total n.some,
@@ -100,14 +100,14 @@ module _ {sizes : List ℕ} {total : ℕ} {old : List ℤ} {rs : List ℕ} {out 
     sharing_next w f v ew ef ev low' b p =
         let ws = map (whole sizes total) sizes in
         let fs = map (fraction sizes total) sizes in
-        let gw = get_d_map (whole sizes total) sizes i 0 0 l in
-        let gf = get_d_map (fraction sizes total) sizes i 0 0 l in
+        let gw = get_or-map_at (whole sizes total) sizes i 0 0 l in
+        let gf = get_or-map_at (fraction sizes total) sizes i 0 0 l in
         let lw : i < length ws = omega (arith, wholes_long sizes total) in
         let lf : i < length fs = omega (arith, fractions_long sizes total) in
         record {
           place = omega arith;
           fractions = written_next fs sizes rs i s.fractions (fractions_long sizes total) 0 f l (ef ∙ sym gf);
-          wholes = written_next (map pos ws) old out i s.wholes (signed_long sizes total old long) (pos 0) v (omega arith) (ev ∙ ap pos (ew ∙ sym gw) ∙ sym (get_d_map pos ws i (pos 0) 0 lw));
+          wholes = written_next (map pos ws) old out i s.wholes (signed_long sizes total old long) (pos 0) v (omega arith) (ev ∙ ap pos (ew ∙ sym gw) ∙ sym (get_or-map_at pos ws i (pos 0) 0 lw));
           sum = omega (arith, s.sum, sum_step ws i lw, gw, ew);
           enough = omega (
             arith,

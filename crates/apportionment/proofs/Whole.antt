@@ -10,7 +10,7 @@ use lib.ListN
 use lib.ListN.{length, get_or, length-map, get_or-eq_default}
 use lib.Seq.{ext_get_or}
 use borrow.Author.Tests.{ltb-true, ltb-false}
-use Rattle.integers.proofs.Counts.{get_d_map, get_or-le-sum}
+use Rattle.integers.proofs.Counts.{get_or-map_at, get_or-le-sum}
 use Rattle.largest_remainder.specs.Rule.{whole, fraction, spare, settled}
 use Rattle.largest_remainder.specs.Cuts.{above, IsCut}
 use Rattle.apportionment.specs.Steps.{Input, raised_by, Bounded, CutAsks, HandAsks, Shared}
@@ -34,7 +34,7 @@ module _ {sizes : List ℕ} {total : ℕ} {rs : List ℕ} {out : List ℤ} {give
       go : (i : ℕ) (b : Bool) → ltb i (length rs) ≡ b → get_or rs i 0 ≤ market_most
       go i true e =
           let l : i < length sizes = omega (arith, ltb-true i (length rs) e, ap length k.fractions, length-map sizes (fraction sizes total)) in
-          rw (k.fractions, get_d_map (fraction sizes total) sizes i 0 0 l)
+          rw (k.fractions, get_or-map_at (fraction sizes total) sizes i 0 0 l)
           (omega (arith, fraction-less sizes total n.some (get_or sizes i 0), sum_fits sizes total n))
       go i false e = omega (arith, get_or-eq_default rs 0 (ltb-false i (length rs) e))
 
@@ -76,7 +76,7 @@ module _ {sizes : List ℕ} {total : ℕ} {rs : List ℕ} {out : List ℤ} {give
       raised_at rs at ties out i (omega (arith, out_length))
       ∙ rw (
         out_at i,
-        get_d_map (whole sizes total) sizes i 0 0 j,
+        get_or-map_at (whole sizes total) sizes i 0 0 j,
         k.fractions,
       )
       (ap pos (sym (settled-get_or sizes total i j ∙ settled_cut sizes total n.some i j at ties c)))

@@ -8,7 +8,7 @@ use lib.IntN.{ℤ, pos, negsuc, nat_abs, ◌+ℤ◌}
 use lib.ListN.{length, get_or}
 use mir.Syntax.{w64}
 use mir.Val.{SFits}
-use Rattle.integers.proofs.Counts.{length-tabulate, get_d_tabulate}
+use Rattle.integers.proofs.Counts.{length-tabulate, get_or-tabulate}
 use Rattle.integers.proofs.Machine.{fits-add}
 use Rattle.integers.proofs.Tests.{and_true, range_size}
 use Rattle.checking.specs.Sums.{near, plus, added}
@@ -39,4 +39,4 @@ module _ (xs ys : List ℤ) where
 
   pub added_at : (i : ℕ) → i < length xs → get_or (added xs ys) i (pos 0) ≡ plus (get_or xs i (pos 0)) (get_or ys i (pos 0))
   unfolding added
-  added_at i h = get_d_tabulate _ (length xs) i (pos 0) h
+  added_at i h = get_or-tabulate _ (length xs) i (pos 0) h

@@ -7,7 +7,7 @@ use native.Mathlib.Omega.{arith}
 use lib.IntN.{ℤ, pos}
 use lib.ListN.{length, take, drop, replicate, length-take, length-drop}
 use Rattle.integers.specs.Ranges.{is_zero}
-use Rattle.integers.specs.Lists.{sumℤ, AtMost}
+use Rattle.integers.specs.Lists.{sum_ℤ, AtMost}
 use Rattle.integers.proofs.Passes.{every_take}
 use Rattle.rules.specs.declared.ClosingTerms.{ClosingTerms}
 use Rattle.rules.specs.Limits.{users_most, position_most, position_fit}
@@ -30,7 +30,7 @@ module _ {p : List ℤ} {k : ClosingTerms} {q m : List ℤ} (a : Asks p k q m) (
     money_asked = a.moneys ∙ copy_asked ∙ sym (ap length ew)
 
     pub part_left : (p' m' : List ℤ) (s b : ℤ) → m' ≡ moneys k.excess_price k.shortfall_price w
-        → s ≡ sumℤ (map (traded_of true) w) → b ≡ sumℤ (map (traded_of false) w)
+        → s ≡ sum_ℤ (map (traded_of true) w) → b ≡ sum_ℤ (map (traded_of false) w)
         → p' ≡ replicate (length p) (pos 0) → PartLeaves (length q) p p' k w m' s b
     part_left p' m' s b em es eb ep = record {
       lists = record {

@@ -7,7 +7,7 @@ use native.Mathlib.Omega.{arith}
 use native.Mathlib.Nat.{le_refl}
 use lib.IntN.{ℤ, pos, nat_abs, neg_ℤ}
 use lib.Signed.{lt_z}
-use Rattle.integers.specs.Lists.{sumℤ, AtMost}
+use Rattle.integers.specs.Lists.{sum_ℤ, AtMost}
 use Rattle.integers.proofs.Sizes.{size-neg}
 use Rattle.integers.proofs.Sums.{at_most_cons, at_most_tail}
 use Rattle.rules.specs.Market.{sold, bought}
@@ -31,10 +31,10 @@ at_most_traded sale [] s = s
 at_most_traded sale (q ∷ qs) s = at_most_cons (omega (arith, traded_size sale q, s.at 0)) (at_most_traded sale qs (at_most_tail s))
 
 -- the two sums of a closing
-pub sold_is : (qs : List ℤ) → sumℤ (map (traded_of true) qs) ≡ sold qs
+pub sold_is : (qs : List ℤ) → sum_ℤ (map (traded_of true) qs) ≡ sold qs
 unfolding sold traded_of sold_of
 sold_is qs = refl
 
-pub bought_is : (qs : List ℤ) → sumℤ (map (traded_of false) qs) ≡ bought qs
+pub bought_is : (qs : List ℤ) → sum_ℤ (map (traded_of false) qs) ≡ bought qs
 unfolding bought traded_of bought_of
 bought_is qs = refl

@@ -3,7 +3,7 @@
 #![tactic(auto)]
 
 ghost use Rattle.std.specs.Prelude.{◌≡◌, map, ◌≤◌, nat_abs, length};
-ghost use Rattle.integers.specs.Lists.{sumℤ, AtMost};
+ghost use Rattle.integers.specs.Lists.{sum_ℤ, AtMost};
 ghost use Rattle.rules.specs.Limits.{users_most, position_most, price_most};
 ghost use Rattle.rules.specs.Market.{money_of, moneys};
 ghost use Rattle.closing.specs.Steps.{sold_of, bought_of, traded_of, Asks, PartLeaves, TableAsks, TableLeaves};
@@ -89,7 +89,7 @@ fn money_all(excess_price: i64, shortfall_price: i64, quantity: &[i64], money: &
 // The sum of the sales, or of the purchases, as sizes.
 fn traded_all(sale: bool, quantity: &[i64]) -> i64
     requires { (length quantity.now ≤ users_most) × AtMost position_most quantity.now }
-    ensures { result ≡ sumℤ (map (traded_of sale) quantity.now) }
+    ensures { result ≡ sum_ℤ (map (traded_of sale) quantity.now) }
 {
     let mut sum: i64 = 0;
     let mut i: usize = 0;

@@ -101,11 +101,11 @@ module _ {A : Type 0} where
   length-tabulate f zero = refl
   length-tabulate f (suc n) = ap suc (length-tabulate (λ i. f (suc i)) n)
 
-  pub get_d_tabulate : (f : ℕ → A) (n i : ℕ) (z : A) → i < n → get_or (tabulate f n) i z ≡ f i
+  pub get_or-tabulate : (f : ℕ → A) (n i : ℕ) (z : A) → i < n → get_or (tabulate f n) i z ≡ f i
   unfolding tabulate
-  get_d_tabulate f zero i z h = absurd (not-suc-le-zero h)
-  get_d_tabulate f (suc n) zero z h = refl
-  get_d_tabulate f (suc n) (suc i) z h = get_d_tabulate (λ k. f (suc k)) n i z (le_of_suc-le-suc h)
+  get_or-tabulate f zero i z h = absurd (not-suc-le-zero h)
+  get_or-tabulate f (suc n) zero z h = refl
+  get_or-tabulate f (suc n) (suc i) z h = get_or-tabulate (λ k. f (suc k)) n i z (le_of_suc-le-suc h)
 
   pub tabulate_ext : (f g : ℕ → A) (n : ℕ) → ((i : ℕ) → i < n → f i ≡ g i) → tabulate f n ≡ tabulate g n
   unfolding tabulate
@@ -118,10 +118,10 @@ module _ {A : Type 0} where
   tabulate-map f z [] = refl
   tabulate-map f z (x ∷ xs) = ap {B = List A} (λ l. f x ∷ l) (tabulate-map f z xs)
 
-  pub get_d_map : {B : Type 0} (f : B → A) (xs : List B) (i : ℕ) (y : A) (z : B) → i < length xs → get_or (map f xs) i y ≡ f (get_or xs i z)
-  get_d_map f [] i y z h = absurd (not-suc-le-zero h)
-  get_d_map f (x ∷ xs) zero y z h = refl
-  get_d_map f (x ∷ xs) (suc i) y z h = get_d_map f xs i y z (le_of_suc-le-suc h)
+  pub get_or-map_at : {B : Type 0} (f : B → A) (xs : List B) (i : ℕ) (y : A) (z : B) → i < length xs → get_or (map f xs) i y ≡ f (get_or xs i z)
+  get_or-map_at f [] i y z h = absurd (not-suc-le-zero h)
+  get_or-map_at f (x ∷ xs) zero y z h = refl
+  get_or-map_at f (x ∷ xs) (suc i) y z h = get_or-map_at f xs i y z (le_of_suc-le-suc h)
 
   pub take-map : {B : Type 0} (f : B → A) (xs : List B) (i : ℕ) → take i (map f xs) ≡ map f (take i xs)
   take-map f xs zero = refl

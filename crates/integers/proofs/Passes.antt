@@ -12,7 +12,7 @@ use lib.ListN.{length, set, take, drop, get_or, replicate, length-replicate, get
 use lib.Seq.{drop-cons, take-suc, take_all, length-take-le, set_at, get_or_at, append_snoc}
 use mir.Syntax.{w64}
 use mir.Val.{SFits, to_z, of_z}
-use Rattle.integers.specs.Lists.{sumℤ, every, AtMost}
+use Rattle.integers.specs.Lists.{sum_ℤ, every, AtMost}
 use Rattle.integers.proofs.Machine.{read, read_le, fits-add}
 use Rattle.integers.proofs.Sizes.{size_eq}
 use Rattle.integers.proofs.Tests.{and_true}
@@ -105,12 +105,12 @@ unfolding every
 every_at_most p n h [] e = record { at = λ i. zero-le }
 every_at_most p n h (x ∷ xs) e = let k = and_true (p x) (every p xs) e in at_most_cons (h x k.0) (every_at_most p n h xs k.1)
 
--- ---- a loop that adds the elements of xs to a signed local, whose bits are s: the invariant is `to_z w64 s ≡ sumℤ (take i xs)`
-module _ (xs : List ℤ) (i s : ℕ) (v : ℤ) (inv : to_z w64 s ≡ sumℤ (take i xs)) (is : v ≡ get_or xs i (pos 0)) where
+-- ---- a loop that adds the elements of xs to a signed local, whose bits are s: the invariant is `to_z w64 s ≡ sum_ℤ (take i xs)`
+module _ (xs : List ℤ) (i s : ℕ) (v : ℤ) (inv : to_z w64 s ≡ sum_ℤ (take i xs)) (is : v ≡ get_or xs i (pos 0)) where
   pub added-fits : (n : ℕ) → AtMost n xs → (i + 1) * n < 2 ^ 63 → SFits w64 (to_z w64 s +ℤ v)
   added-fits n m h = omega (arith, fits-add, size_eq, m.at i, sum-take_bound i xs m)
 
-  pub added_next : i < length xs → SFits w64 (to_z w64 s +ℤ v) → to_z w64 (of_z w64 (to_z w64 s +ℤ v)) ≡ sumℤ (take (i + 1) xs)
+  pub added_next : i < length xs → SFits w64 (to_z w64 s +ℤ v) → to_z w64 (of_z w64 (to_z w64 s +ℤ v)) ≡ sum_ℤ (take (i + 1) xs)
   added_next h f = read f ∙ simp (inv, is) (sym (sum_ℤ-step xs i h))
 
 -- ---- a bounded element that is read, also where the loop's list still has it

@@ -8,27 +8,27 @@ use native.Mathlib.Numerals.{add-one}
 use lib.IntN.{ℤ, pos, nat_abs, ◌+ℤ◌, ◌-ℤ◌, +ℤ_idl, +ℤ_idr, +ℤ_assoc}
 use lib.ListN.{length, take, drop, get_or}
 use lib.Seq.{take-suc}
-use Rattle.integers.specs.Lists.{sumℤ, AtMost}
+use Rattle.integers.specs.Lists.{sum_ℤ, AtMost}
 use Rattle.integers.proofs.Linear.{lin4, diffs, linear}
 use Rattle.integers.proofs.Sizes.{size-add}
 
-sum-append : (xs ys : List ℤ) → sumℤ (xs ++ ys) ≡ sumℤ xs +ℤ sumℤ ys
-unfolding sumℤ
-sum-append [] ys = sym (+ℤ_idl (sumℤ ys))
-sum-append (x ∷ xs) ys = ap (λ (z : ℤ). x +ℤ z) (sum-append xs ys) ∙ sym (+ℤ_assoc x (sumℤ xs) (sumℤ ys))
+sum-append : (xs ys : List ℤ) → sum_ℤ (xs ++ ys) ≡ sum_ℤ xs +ℤ sum_ℤ ys
+unfolding sum_ℤ
+sum-append [] ys = sym (+ℤ_idl (sum_ℤ ys))
+sum-append (x ∷ xs) ys = ap (λ (z : ℤ). x +ℤ z) (sum-append xs ys) ∙ sym (+ℤ_assoc x (sum_ℤ xs) (sum_ℤ ys))
 
 -- a loop's step: one element more
-pub sum_ℤ-step : (xs : List ℤ) (i : ℕ) → i < length xs → sumℤ (take (i + 1) xs) ≡ sumℤ (take i xs) +ℤ get_or xs i (pos 0)
-unfolding sumℤ
-sum_ℤ-step xs i h = rw (add-one, take-suc xs i (pos 0), sum-append) (ap (λ (z : ℤ). sumℤ (take i xs) +ℤ z) (+ℤ_idr (get_or xs i (pos 0))))
+pub sum_ℤ-step : (xs : List ℤ) (i : ℕ) → i < length xs → sum_ℤ (take (i + 1) xs) ≡ sum_ℤ (take i xs) +ℤ get_or xs i (pos 0)
+unfolding sum_ℤ
+sum_ℤ-step xs i h = rw (add-one, take-suc xs i (pos 0), sum-append) (ap (λ (z : ℤ). sum_ℤ (take i xs) +ℤ z) (+ℤ_idr (get_or xs i (pos 0))))
 
 -- the sum of pointwise differences
-pub sum-zip-sub : (xs ys : List ℤ) → length xs ≡ length ys → sumℤ (zip_with ◌-ℤ◌ xs ys) ≡ sumℤ xs -ℤ sumℤ ys
-unfolding sumℤ zip_with
+pub sum-zip-sub : (xs ys : List ℤ) → length xs ≡ length ys → sum_ℤ (zip_with ◌-ℤ◌ xs ys) ≡ sum_ℤ xs -ℤ sum_ℤ ys
+unfolding sum_ℤ zip_with
 sum-zip-sub [] [] e = refl
 sum-zip-sub [] (y ∷ ys) e = absurd (omega arith)
 sum-zip-sub (x ∷ xs) [] e = absurd (omega arith)
-sum-zip-sub (x ∷ xs) (y ∷ ys) e = rw (sum-zip-sub xs ys (omega arith)) (swap x y (sumℤ xs) (sumℤ ys))
+sum-zip-sub (x ∷ xs) (y ∷ ys) e = rw (sum-zip-sub xs ys (omega arith)) (swap x y (sum_ℤ xs) (sum_ℤ ys))
   where
     swap : (x y s t : ℤ) → (x -ℤ y) +ℤ (s -ℤ t) ≡ (x +ℤ s) -ℤ (y +ℤ t)
     swap = lin4 _ (λ a b c d e f g h. simp diffs (omega linear))
@@ -54,16 +54,16 @@ at_most_drop zero xs s = s
 at_most_drop (suc k) [] s = s
 at_most_drop (suc k) (x ∷ xs) s = at_most_drop k xs (at_most_tail s)
 
-pub sum_bound : {n : ℕ} (xs : List ℤ) → AtMost n xs → nat_abs (sumℤ xs) ≤ length xs * n
-unfolding sumℤ
+pub sum_bound : {n : ℕ} (xs : List ℤ) → AtMost n xs → nat_abs (sum_ℤ xs) ≤ length xs * n
+unfolding sum_ℤ
 sum_bound [] s = omega arith
-sum_bound (x ∷ xs) s = omega (arith, size-add x (sumℤ xs), s.at 0, sum_bound xs (at_most_tail s))
+sum_bound (x ∷ xs) s = omega (arith, size-add x (sum_ℤ xs), s.at 0, sum_bound xs (at_most_tail s))
 
-pub sum-take_bound : {n : ℕ} (i : ℕ) (xs : List ℤ) → AtMost n xs → nat_abs (sumℤ (take i xs)) ≤ i * n
-unfolding sumℤ
+pub sum-take_bound : {n : ℕ} (i : ℕ) (xs : List ℤ) → AtMost n xs → nat_abs (sum_ℤ (take i xs)) ≤ i * n
+unfolding sum_ℤ
 sum-take_bound zero xs s = omega arith
 sum-take_bound (suc i) [] s = omega arith
-sum-take_bound (suc i) (x ∷ xs) s = omega (arith, size-add x (sumℤ (take i xs)), s.at 0, sum-take_bound i xs (at_most_tail s))
+sum-take_bound (suc i) (x ∷ xs) s = omega (arith, size-add x (sum_ℤ (take i xs)), s.at 0, sum-take_bound i xs (at_most_tail s))
 
 -- ---- pointwise lists
 module _ {A B C : Type 0} (f : A → B → C) where
@@ -73,10 +73,10 @@ module _ {A B C : Type 0} (f : A → B → C) where
   length-zip (x ∷ xs) [] e = absurd (omega arith)
   length-zip (x ∷ xs) (y ∷ ys) e = ap suc (length-zip xs ys (omega arith))
 
-  pub get_d_zip : (xs : List A) (ys : List B) (i : ℕ) (x : A) (y : B) (z : C) → i < length xs → i < length ys
+  pub get_or-zip : (xs : List A) (ys : List B) (i : ℕ) (x : A) (y : B) (z : C) → i < length xs → i < length ys
       → get_or (zip_with f xs ys) i z ≡ f (get_or xs i x) (get_or ys i y)
   unfolding zip_with
-  get_d_zip [] ys i x y z h k = absurd (not-suc-le-zero h)
-  get_d_zip (a ∷ xs) [] i x y z h k = absurd (not-suc-le-zero k)
-  get_d_zip (a ∷ xs) (b ∷ ys) zero x y z h k = refl
-  get_d_zip (a ∷ xs) (b ∷ ys) (suc i) x y z h k = get_d_zip xs ys i x y z (le_of_suc-le-suc h) (le_of_suc-le-suc k)
+  get_or-zip [] ys i x y z h k = absurd (not-suc-le-zero h)
+  get_or-zip (a ∷ xs) [] i x y z h k = absurd (not-suc-le-zero k)
+  get_or-zip (a ∷ xs) (b ∷ ys) zero x y z h k = refl
+  get_or-zip (a ∷ xs) (b ∷ ys) (suc i) x y z h k = get_or-zip xs ys i x y z (le_of_suc-le-suc h) (le_of_suc-le-suc k)

@@ -7,9 +7,9 @@ sum [] = 0
 sum (x ∷ xs) = x + sum xs
 
 -- the sum of a list of integers
-unfoldable pub sumℤ : List ℤ → ℤ
-sumℤ [] = pos 0
-sumℤ (x ∷ xs) = x +ℤ sumℤ xs
+unfoldable pub sum_ℤ : List ℤ → ℤ
+sum_ℤ [] = pos 0
+sum_ℤ (x ∷ xs) = x +ℤ sum_ℤ xs
 
 -- every element passes the test
 unfoldable pub every : {A : Type 0} → (A → Bool) → List A → Bool

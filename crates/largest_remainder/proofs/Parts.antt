@@ -10,7 +10,7 @@ use lib.Dec.{ltb, eqb}
 use lib.ListN.{length, get_or, take, length-map}
 use borrow.Author.Tests.{ltb-false, lt-ltb, le-ltb}
 use Rattle.integers.specs.Lists.{bit, count, sum}
-use Rattle.integers.proofs.Counts.{bit-ltb, bit-eqb, count_ext, count_map, get_d_map, take-map, length-tabulate, get_d_tabulate}
+use Rattle.integers.proofs.Counts.{bit-ltb, bit-eqb, count_ext, count_map, get_or-map_at, take-map, length-tabulate, get_or-tabulate}
 use Rattle.largest_remainder.specs.Rule.{causer, whole, fraction, spare, rank, settled_at, settled}
 use Rattle.largest_remainder.specs.Cuts.{above, IsCut, taken}
 use Rattle.largest_remainder.proofs.Cuts.{before, cut_test}
@@ -72,7 +72,7 @@ module _ (sizes : List ℕ) (total : ℕ) where
 
     module _ (i : ℕ) (h : i < length sizes) where
       fraction_at : get_or fractions i 0 ≡ fraction sizes total (get_or sizes i 0)
-      fraction_at = get_d_map (fraction sizes total) sizes i 0 0 h
+      fraction_at = get_or-map_at (fraction sizes total) sizes i 0 0 h
 
       fraction_in : i < length fractions
       fraction_in = omega (arith, length-map sizes (fraction sizes total))
@@ -146,4 +146,4 @@ module _ (sizes : List ℕ) (total : ℕ) where
 
   pub settled-get_or : (i : ℕ) → i < length sizes → get_or (settled sizes total) i 0 ≡ settled_at sizes total i
   unfolding settled
-  settled-get_or i h = get_d_tabulate (settled_at sizes total) (length sizes) i 0 h
+  settled-get_or i h = get_or-tabulate (settled_at sizes total) (length sizes) i 0 h

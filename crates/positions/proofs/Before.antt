@@ -5,7 +5,7 @@ use Prim.Native.Nat.{ℕ, ◌<◌}
 use lib.IntN.{ℤ, pos}
 use lib.ListN.{length, get_or}
 use Rattle.integers.specs.Lists.{every, AtMost}
-use Rattle.integers.proofs.Counts.{length-tabulate, get_d_tabulate}
+use Rattle.integers.proofs.Counts.{length-tabulate, get_or-tabulate}
 use Rattle.integers.proofs.Tests.{and_true}
 use Rattle.rules.specs.declared.Day.{Day}
 use Rattle.rules.specs.Limits.{entry_most, exit_most, title_most, pooling_most, position_most, entry_fit, exit_fit, title_fit, pooling_fit}
@@ -21,7 +21,7 @@ module _ (p e x t i : List ℤ) where
 
   pub befores_at : (user : ℕ) → user < length e → get_or (befores p e x t i) user (pos 0) ≡ before_at p e x t i user
   unfolding befores
-  befores_at user h = get_d_tabulate _ (length e) user (pos 0) h
+  befores_at user h = get_or-tabulate _ (length e) user (pos 0) h
 
 -- lists in range are lists of small numbers
 pub record Few (p e x t i : List ℤ) : Type 0 where

@@ -4,7 +4,7 @@
 
 ghost use Rattle.std.specs.Prelude.{◌≡◌, true, cond, ◌≤◌, nat_abs, ◌+ℤ◌, ◌-ℤ◌, length};
 ghost use Rattle.std.specs.Int.Signed.{lt_z};
-ghost use Rattle.integers.specs.Lists.{sumℤ, AtMost};
+ghost use Rattle.integers.specs.Lists.{sum_ℤ, AtMost};
 ghost use Rattle.rules.specs.Limits.{users_most, entry_most, exit_most, title_most, pooling_most, position_most, market_most};
 ghost use Rattle.rules.specs.Causes.{terms_fit};
 ghost use Rattle.rules.specs.Market.{within, excess, shortfall, imbalance_of};
@@ -42,7 +42,7 @@ pub fn before_of(position: i64, entry: i64, exit: i64, title: i64, pooling: i64)
 // The sum of the amounts or positions of all users.
 pub fn sum_of(amounts: &[i64]) -> i64
     requires { (length amounts.now ≤ users_most) × AtMost position_most amounts.now }
-    ensures { result ≡ sumℤ amounts.now }
+    ensures { result ≡ sum_ℤ amounts.now }
 {
     let mut sum: i64 = 0;
     let mut i: usize = 0;

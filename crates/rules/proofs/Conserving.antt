@@ -14,7 +14,7 @@ use lib.Seq.{get_or-take, take_at}
 use Rattle.integers.specs.Ranges.{equal, is_zero, natural}
 use Rattle.integers.proofs.Linear.{lin3, lin4, diffs, linear, not_both}
 use Rattle.integers.proofs.Tests.{and_true, equal_true, equal_false}
-use Rattle.integers.proofs.Counts.{length-tabulate, get_d_tabulate}
+use Rattle.integers.proofs.Counts.{length-tabulate, get_or-tabulate}
 use Rattle.rules.specs.declared.Day.{Day}
 use Rattle.rules.specs.declared.ZoneDay.{ZoneDay}
 use Rattle.rules.specs.declared.OpenAnswer.TheVariants.{Refused as OpenRefused, Opened}
@@ -63,7 +63,7 @@ module _ (d : Day) (t : List ℤ) (g : Hour) (k : hour_cause d t g ≡ 0) where
       ap (λ (p : List ℤ). get_or p u (pos 0)) hour_part
       ∙ get_or-onto _ _ u (omega (arith, length-after (hour_imbalance d t g) (before d t g), length_before d t g))
       ∙ after_at (hour_imbalance d t g) (before d t g) u (omega (arith, length_before d t g))
-      ∙ ap₂ ◌-ℤ◌ (get_d_tabulate _ (users d) u (pos 0) h) (ap (λ (l : List ℤ). get_or l u (pos 0)) (sym (by_none _ _ _ k)))
+      ∙ ap₂ ◌-ℤ◌ (get_or-tabulate _ (users d) u (pos 0) h) (ap (λ (l : List ℤ). get_or l u (pos 0)) (sym (by_none _ _ _ k)))
 
 -- ---- an accepted closing
 module _ (d : Day) (t : List ℤ) (g : Closing) (k : closing_cause d t g ≡ 0) where

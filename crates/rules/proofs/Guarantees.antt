@@ -8,7 +8,7 @@ use native.Mathlib.Omega.{arith}
 use native.Mathlib.Nat.{eq-zero-or-pos}
 use lib.IntN.{ℤ, pos, ◌+ℤ◌, +ℤ_idr}
 use lib.ListN.{length, get_or, length-map, get_or-map}
-use Rattle.integers.specs.Lists.{sumℤ}
+use Rattle.integers.specs.Lists.{sum_ℤ}
 use Rattle.integers.proofs.Counts.{count_map}
 use Rattle.rules.specs.declared.Day.{Day}
 use Rattle.rules.specs.declared.HourDone.{HourDone}
@@ -101,7 +101,7 @@ unfolding hour_imbalance imbalance
 outcome_by_thresholds d t g d' o e =
     let (k, q) = done_by d t g d' o e in
     let b = thresholds_sound g.terms (hour_fit_lem d t g k).terms in
-    rw q at (tells g.terms.upper g.terms.lower (sumℤ (before d t g)) b.0 b.1 (before d t g) (view g.terms.upper g.terms.lower (sumℤ (before d t g))))
+    rw q at (tells g.terms.upper g.terms.lower (sum_ℤ (before d t g)) b.0 b.1 (before d t g) (view g.terms.upper g.terms.lower (sum_ℤ (before d t g))))
 
 -- ---- the marks
 

@@ -11,12 +11,12 @@ use lib.IntN.{ℤ, pos, negsuc, nat_abs, neg_ℤ, ◌+ℤ◌, ◌-ℤ◌, +ℤ_i
 use lib.ListN.{length, get_or, length-map, get_or-eq_default}
 use lib.Signed.{lt_z, le_z}
 use Rattle.integers.specs.Ranges.{natural}
-use Rattle.integers.specs.Lists.{sum, sumℤ, every}
+use Rattle.integers.specs.Lists.{sum, sum_ℤ, every}
 use Rattle.integers.proofs.Linear.{lin1, lin2, lin3, lin4, diffs, linear, not_both}
 use Rattle.integers.proofs.Sizes.{size-neg}
 use Rattle.integers.proofs.Tests.{both_true, le_of_test, test_of_le}
-use Rattle.integers.proofs.Counts.{get_d_map}
-use Rattle.integers.proofs.Sums.{sum-zip-sub, length-zip, get_d_zip}
+use Rattle.integers.proofs.Counts.{get_or-map_at}
+use Rattle.integers.proofs.Sums.{sum-zip-sub, length-zip, get_or-zip}
 use Rattle.integers.proofs.Passes.{every_at}
 use Rattle.largest_remainder.specs.Rule.{settled}
 use Rattle.largest_remainder.proofs.Guarantees.{adds_up, accurate, no_more_than_size, settled_long}
@@ -69,15 +69,15 @@ module _ (i : Imbalance) (ps : List ℤ) where
   module _ (u : ℕ) (h : u < length ps) where
     size_at : get_or (sizes i ps) u 0 ≡ size i (get_or ps u (pos 0))
     unfolding sizes
-    size_at = get_d_map (size i) ps u 0 (pos 0) h
+    size_at = get_or-map_at (size i) ps u 0 (pos 0) h
 
     quantity_at : get_or (quantities i ps) u (pos 0) ≡ signed i (get_or (settled_sizes i ps) u 0)
     unfolding quantities
-    quantity_at = get_d_map (signed i) (settled_sizes i ps) u (pos 0) 0 (omega (arith, length-settled))
+    quantity_at = get_or-map_at (signed i) (settled_sizes i ps) u (pos 0) 0 (omega (arith, length-settled))
 
     pub after_at : get_or (after i ps) u (pos 0) ≡ get_or ps u (pos 0) -ℤ get_or (quantities i ps) u (pos 0)
     unfolding after
-    after_at = get_d_zip ◌-ℤ◌ ps (quantities i ps) u (pos 0) (pos 0) (pos 0) h (omega (arith, length-quantities))
+    after_at = get_or-zip ◌-ℤ◌ ps (quantities i ps) u (pos 0) (pos 0) (pos 0) h (omega (arith, length-quantities))
 
 -- ---- a causer's size is its position, or its negated position, as a natural number
 -- whoever is below zero in an excess has no size
@@ -110,18 +110,18 @@ le-natural (negsuc m) = refl
 add-le : (a b x y : ℤ) → le_z x a ≡ true → le_z y b ≡ true → le_z (x +ℤ y) (a +ℤ b) ≡ true
 add-le = lin4 _ (λ a b c d e f g h. simp diffs (omega linear))
 
-market_le : (n : ℕ) (ps : List ℤ) → le_z (sumℤ ps) (pos (sum (sizes (excess n) ps))) ≡ true
-unfolding sumℤ sum sizes
+market_le : (n : ℕ) (ps : List ℤ) → le_z (sum_ℤ ps) (pos (sum (sizes (excess n) ps))) ≡ true
+unfolding sum_ℤ sum sizes
 market_le n [] = refl
 market_le n (p ∷ ps) =
-    add-le (pos (size (excess n) p)) (pos (sum (sizes (excess n) ps))) p (sumℤ ps) (rw (size_excess n p) (le-natural p)) (market_le n ps)
+    add-le (pos (size (excess n) p)) (pos (sum (sizes (excess n) ps))) p (sum_ℤ ps) (rw (size_excess n p) (le-natural p)) (market_le n ps)
 
-market_ge : (n : ℕ) (ps : List ℤ) → le_z (neg_ℤ (sumℤ ps)) (pos (sum (sizes (shortfall n) ps))) ≡ true
-unfolding sumℤ sum sizes
+market_ge : (n : ℕ) (ps : List ℤ) → le_z (neg_ℤ (sum_ℤ ps)) (pos (sum (sizes (shortfall n) ps))) ≡ true
+unfolding sum_ℤ sum sizes
 market_ge n [] = refl
 market_ge n (p ∷ ps) =
-    rw (neg_ℤ-+ℤ p (sumℤ ps))
-    (add-le (pos (size (shortfall n) p)) (pos (sum (sizes (shortfall n) ps))) (neg_ℤ p) (neg_ℤ (sumℤ ps)) (rw (size_shortfall n p) (le-natural (neg_ℤ p))) (market_ge n ps))
+    rw (neg_ℤ-+ℤ p (sum_ℤ ps))
+    (add-le (pos (size (shortfall n) p)) (pos (sum (sizes (shortfall n) ps))) (neg_ℤ p) (neg_ℤ (sum_ℤ ps)) (rw (size_shortfall n p) (le-natural (neg_ℤ p))) (market_ge n ps))
 
 -- ---- what rule 4 counts on: some size, and a total within the sizes
 pub record Shareable (i : Imbalance) (ps : List ℤ) : Type 0 where
@@ -136,21 +136,21 @@ enough_shortfall : (e s l m : ℤ) → le_z l (pos 0) ≡ true → lt_z m l ≡ 
 enough_shortfall = lin4 _ (λ a b c d e f g h. simp diffs (omega linear))
 
 module _ (upper lower : ℤ) (ps : List ℤ) (top : le_z (pos 0) upper ≡ true) (bottom : le_z lower (pos 0) ≡ true) where
-  pub share_excess : (n : ℕ) → lt_z upper (sumℤ ps) ≡ true → pos n ≡ sumℤ ps -ℤ upper → Shareable (excess n) ps
+  pub share_excess : (n : ℕ) → lt_z upper (sum_ℤ ps) ≡ true → pos n ≡ sum_ℤ ps -ℤ upper → Shareable (excess n) ps
   unfolding total
   share_excess n a b =
-      let k = enough_excess (pos n) (pos (sum (sizes (excess n) ps))) upper (sumℤ ps) top a b (market_le n ps) in
+      let k = enough_excess (pos n) (pos (sum (sizes (excess n) ps))) upper (sum_ℤ ps) top a b (market_le n ps) in
       record { some = ltb-true 0 _ k.0; enough = leb-true _ _ k.1 }
 
-  pub share_shortfall : (n : ℕ) → lt_z (sumℤ ps) lower ≡ true → pos n ≡ lower -ℤ sumℤ ps → Shareable (shortfall n) ps
+  pub share_shortfall : (n : ℕ) → lt_z (sum_ℤ ps) lower ≡ true → pos n ≡ lower -ℤ sum_ℤ ps → Shareable (shortfall n) ps
   unfolding total
   share_shortfall n a b =
-      let k = enough_shortfall (pos n) (pos (sum (sizes (shortfall n) ps))) lower (sumℤ ps) bottom a b (market_ge n ps) in
+      let k = enough_shortfall (pos n) (pos (sum (sizes (shortfall n) ps))) lower (sum_ℤ ps) bottom a b (market_ge n ps) in
       record { some = ltb-true 0 _ k.0; enough = leb-true _ _ k.1 }
 
 -- ---- sums
-sum-signed : (i : Imbalance) (ns : List ℕ) → sumℤ (map (signed i) ns) ≡ signed i (sum ns)
-unfolding sumℤ sum signed
+sum-signed : (i : Imbalance) (ns : List ℕ) → sum_ℤ (map (signed i) ns) ≡ signed i (sum ns)
+unfolding sum_ℤ sum signed
 sum-signed within [] = refl
 sum-signed within (n ∷ ns) = rw (sum-signed within ns)
 sum-signed (excess e) [] = refl
@@ -158,9 +158,9 @@ sum-signed (excess e) (n ∷ ns) = rw (sum-signed (excess e) ns)
 sum-signed (shortfall e) [] = refl
 sum-signed (shortfall e) (n ∷ ns) = rw (sum-signed (shortfall e) ns) (sym (neg_ℤ-+ℤ (pos n) (pos (sum ns))))
 
-sum-after : (i : Imbalance) (ps : List ℤ) → sumℤ (after i ps) ≡ sumℤ ps -ℤ signed i (sum (settled_sizes i ps))
+sum-after : (i : Imbalance) (ps : List ℤ) → sum_ℤ (after i ps) ≡ sum_ℤ ps -ℤ signed i (sum (settled_sizes i ps))
 unfolding after quantities
-sum-after i ps = sum-zip-sub ps (quantities i ps) (sym (length-quantities i ps)) ∙ ap (λ (x : ℤ). sumℤ ps -ℤ x) (sum-signed i (settled_sizes i ps))
+sum-after i ps = sum-zip-sub ps (quantities i ps) (sym (length-quantities i ps)) ∙ ap (λ (x : ℤ). sum_ℤ ps -ℤ x) (sum-signed i (settled_sizes i ps))
 
 sum-settled : (i : Imbalance) (ps : List ℤ) → Shareable i ps → sum (settled_sizes i ps) ≡ total i
 unfolding settled_sizes
@@ -196,22 +196,22 @@ le_zero : (l u : ℤ) → le_z l (pos 0) ≡ true → le_z (pos 0) u ≡ true �
 le_zero = lin2 _ (λ a b c d. simp diffs (omega linear))
 
 record MarketAfter (upper lower : ℤ) (i : Imbalance) (ps : List ℤ) : Type 0 where
-  not_above : le_z (sumℤ (after i ps)) upper ≡ true
-  not_below : le_z lower (sumℤ (after i ps)) ≡ true
+  not_above : le_z (sum_ℤ (after i ps)) upper ≡ true
+  not_below : le_z lower (sum_ℤ (after i ps)) ≡ true
   adds : sum (map nat_abs (quantities i ps)) ≡ total i
 
 market_after : (upper lower : ℤ) (ps : List ℤ) → le_z (pos 0) upper ≡ true → le_z lower (pos 0) ≡ true → {i : Imbalance}
-    → View upper lower (sumℤ ps) i → MarketAfter upper lower i ps
+    → View upper lower (sum_ℤ ps) i → MarketAfter upper lower i ps
 unfolding signed total quantities
 market_after upper lower ps top bottom (is_within a b) =
     record {
-      not_above = rw (sum-after within ps, +ℤ_idr (sumℤ ps)) a;
-      not_below = rw (sum-after within ps, +ℤ_idr (sumℤ ps)) b;
+      not_above = rw (sum-after within ps, +ℤ_idr (sum_ℤ ps)) a;
+      not_below = rw (sum-after within ps, +ℤ_idr (sum_ℤ ps)) b;
       adds = sizes_within (settled_sizes within ps);
     }
 market_after upper lower ps top bottom (is_excess {n = n} a b) =
     let s = sum-settled (excess n) ps (share_excess upper lower ps top bottom n a b) in
-    let e : sumℤ (after (excess n) ps) ≡ upper = sum-after (excess n) ps ∙ ap (λ (k : ℕ). sumℤ ps -ℤ pos k) s ∙ left_excess upper (sumℤ ps) (pos n) b in
+    let e : sum_ℤ (after (excess n) ps) ≡ upper = sum-after (excess n) ps ∙ ap (λ (k : ℕ). sum_ℤ ps -ℤ pos k) s ∙ left_excess upper (sum_ℤ ps) (pos n) b in
     record {
       not_above = rw e (le_self upper);
       not_below = rw e (le_zero lower upper bottom top);
@@ -219,7 +219,7 @@ market_after upper lower ps top bottom (is_excess {n = n} a b) =
     }
 market_after upper lower ps top bottom (is_shortfall {n = n} a b) =
     let s = sum-settled (shortfall n) ps (share_shortfall upper lower ps top bottom n a b) in
-    let e : sumℤ (after (shortfall n) ps) ≡ lower = sum-after (shortfall n) ps ∙ ap (λ (k : ℕ). sumℤ ps -ℤ neg_ℤ (pos k)) s ∙ left_shortfall lower (sumℤ ps) (pos n) b in
+    let e : sum_ℤ (after (shortfall n) ps) ≡ lower = sum-after (shortfall n) ps ∙ ap (λ (k : ℕ). sum_ℤ ps -ℤ neg_ℤ (pos k)) s ∙ left_shortfall lower (sum_ℤ ps) (pos n) b in
     record {
       not_above = rw e (le_zero lower upper bottom top);
       not_below = rw e (le_self lower);
@@ -358,7 +358,7 @@ module _ (upper lower : ℤ) (ps : List ℤ) (top : le_z (pos 0) upper ≡ true)
         × (total i * size i (get_or ps u (pos 0)) < get_or (settled (sizes i ps) (total i)) u 0 * sum (sizes i ps) + sum (sizes i ps))
     share_near i a = rw (size_at i ps u h) at (accurate (sizes i ps) (total i) a.some u (omega (arith, length-sizes i ps)))
 
-    user_share : {i : Imbalance} → View upper lower (sumℤ ps) i
+    user_share : {i : Imbalance} → View upper lower (sum_ℤ ps) i
         → UserAccurate i (sum (sizes i ps)) (get_or ps u (pos 0)) (signed i (get_or (settled (sizes i ps) (total i)) u 0)) (get_or ps u (pos 0) -ℤ signed i (get_or (settled (sizes i ps) (total i)) u 0))
     unfolding signed total
     user_share (is_within a b) = user_within _ 0 (get_or ps u (pos 0)) (every_at position_fit ps u (pos 0) fit h)
@@ -390,7 +390,7 @@ module _ (upper lower : ℤ) (ps : List ℤ) (top : le_z (pos 0) upper ≡ true)
       never (excess e) = refl
       never (shortfall e) = refl
 
-  user_any : {i : Imbalance} → View upper lower (sumℤ ps) i → (u : ℕ)
+  user_any : {i : Imbalance} → View upper lower (sum_ℤ ps) i → (u : ℕ)
       → UserAccurate i (sum (sizes i ps)) (get_or ps u (pos 0)) (get_or (quantities i ps) u (pos 0)) (get_or (after i ps) u (pos 0))
   unfolding settled_sizes
   user_any {i} w u = go (ltb u (length ps)) refl
@@ -409,7 +409,7 @@ module _ (upper lower : ℤ) (ps : List ℤ) (top : le_z (pos 0) upper ≡ true)
   pub settles : Accurate upper lower (imbalance upper lower ps) ps (quantities (imbalance upper lower ps) ps) (after (imbalance upper lower ps) ps)
   unfolding imbalance
   settles =
-      let w = view upper lower (sumℤ ps) in
+      let w = view upper lower (sum_ℤ ps) in
       let m = market_after upper lower ps top bottom w in
       record {
         not_above = le_of_test m.not_above;

@@ -3,7 +3,7 @@
 use Rattle.std.specs.Prelude.{Bool, not, ◌&&◌, ◌||◌, List, ℕ, eqb, ℤ, pos, ◌+ℤ◌, length, drop}
 use Rattle.std.specs.Int.Signed.{le_z}
 use Rattle.integers.specs.Ranges.{in_range, equal, is_zero}
-use Rattle.integers.specs.Lists.{sumℤ, every}
+use Rattle.integers.specs.Lists.{sum_ℤ, every}
 use Rattle.rules.specs.declared.Day.{Day}
 use Rattle.rules.specs.declared.HourTerms.{HourTerms}
 use Rattle.rules.specs.declared.ClosingTerms.{ClosingTerms}
@@ -80,7 +80,7 @@ amounts_fit g = every entry_fit g.entry && (every exit_fit g.exit && (every titl
 
 -- ---- 10: "pooling amounts do not add to zero"
 unfoldable pub pooling_adds : Hour → Bool
-pooling_adds g = is_zero (sumℤ g.pooling)
+pooling_adds g = is_zero (sum_ℤ g.pooling)
 
 -- ---- 11: "a position before settlement out of range"
 unfoldable pub before_fit : Day → List ℤ → Hour → Bool

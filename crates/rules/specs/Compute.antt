@@ -3,7 +3,7 @@ use Rattle.std.specs.Prelude.{ℕ}
 use Rattle.std.specs.Int.Count.{ones_in}
 use mathlib.Core.List.{zip_with}
 use Rattle.integers.specs.Ranges.{natural}
-use Rattle.integers.specs.Lists.{sum, sumℤ, every, count, tabulate}
+use Rattle.integers.specs.Lists.{sum, sum_ℤ, every, count, tabulate}
 use Rattle.largest_remainder.specs.Rule.{whole, fraction, spare, rank, settled_at, settled}
 use Rattle.rules.specs.Limits.{users_fit, length_fit, zone_fit, entry_fit, exit_fit, title_fit, pooling_fit, position_fit}
 use Rattle.rules.specs.Limits.{upper_fit, lower_fit, price_fit, month_fit}
@@ -29,7 +29,7 @@ unfoldable pub rules : ℕ
 unfolding
     ones_in zip_with
     natural
-    sum sumℤ every count tabulate
+    sum sum_ℤ every count tabulate
     whole fraction spare rank settled_at settled
     users_fit length_fit zone_fit entry_fit exit_fit title_fit pooling_fit position_fit
     upper_fit lower_fit price_fit month_fit

@@ -2,7 +2,7 @@
 -- `certificate` asks for each. Assumes nothing.
 use Rattle.std.specs.Prelude.{◌≡◌, Bool, true, false, cond, List, map, ◌↔◌, ◌⊎◌, ℕ, ◌+◌, ◌-◌, ◌*◌, ◌/◌, ◌%◌, ◌^◌, ◌<◌, eqb, ltb, ℤ, pos, nat_abs, ◌+ℤ◌, ◌-ℤ◌, length, get_or, take, replicate, ◌≤ℤ◌, ◌<ℤ◌}
 use Rattle.integers.specs.Ranges.{natural}
-use Rattle.integers.specs.Lists.{sum, sumℤ, count}
+use Rattle.integers.specs.Lists.{sum, sum_ℤ, count}
 use Rattle.rules.specs.declared.Day.{Day}
 use Rattle.rules.specs.declared.Marks.{Marks}
 use Rattle.rules.specs.declared.Side.{Side}
@@ -109,8 +109,8 @@ pub record UserAccurate (i : Imbalance) (S : ℕ) (p q r : ℤ) : Type 0 where
 -- Of an hour with the positions ps before, the quantities qs and the positions rs after.
 pub record Accurate (upper lower : ℤ) (i : Imbalance) (ps qs rs : List ℤ) : Type 0 where
   -- "The market after it is the sum of the positions after"
-  pub not_above : sumℤ rs ≤ℤ upper
-  pub not_below : lower ≤ℤ sumℤ rs
+  pub not_above : sum_ℤ rs ≤ℤ upper
+  pub not_below : lower ≤ℤ sum_ℤ rs
   -- the settled sizes add to the total
   pub adds_up : sum (map nat_abs qs) ≡ total i
   -- by rules 4 and 5
@@ -136,7 +136,7 @@ pub record OutcomeTells (upper lower m : ℤ) (o : Outcome) : Type 0 where
 abbrev pub OutcomeByThresholds : Type 0
 OutcomeByThresholds =
     (d : Day) (t : List ℤ) (g : Hour) (d' : Day) (o : Outcome) → hour_answer d t g ≡ Done (record { day = d'; outcome = o })
-    → OutcomeTells g.terms.upper g.terms.lower (sumℤ (before d t g)) o
+    → OutcomeTells g.terms.upper g.terms.lower (sum_ℤ (before d t g)) o
 
 -- ---- rule 3: the marks answered are the causers, and "the number of marks is answered"
 

@@ -3,7 +3,7 @@ use Rattle.std.specs.Prelude.{Bool, false, cond, ℕ, ◌+◌, ◌*◌, ℤ, pos
 use mathlib.Core.List.{List, [], ◌∷◌, map, zip_with}
 use Rattle.std.specs.Int.Count.{ones_in}
 use Rattle.std.specs.Int.Signed.{lt_z}
-use Rattle.integers.specs.Lists.{sumℤ, bit}
+use Rattle.integers.specs.Lists.{sum_ℤ, bit}
 use Rattle.largest_remainder.specs.Rule.{settled}
 use Rattle.rules.specs.declared.Marks.{Marks}
 use Rattle.rules.specs.declared.Side.TheVariants.{Excess, Shortfall}
@@ -26,7 +26,7 @@ imbalance_of upper lower market =
 
 -- "The market position is the sum over all users."
 unfoldable pub imbalance : ℤ → ℤ → List ℤ → Imbalance
-imbalance upper lower positions = imbalance_of upper lower (sumℤ positions)
+imbalance upper lower positions = imbalance_of upper lower (sum_ℤ positions)
 
 unfoldable pub total : Imbalance → ℕ
 total within = 0
@@ -94,7 +94,7 @@ outcome (shortfall n) positions = Settled (Shortfall (pos n)) (marks (causers (s
 
 -- ---- a closing: "two sums, sold and bought, in kWh and both as sizes"
 unfoldable pub sold : List ℤ → ℤ
-sold qs = sumℤ (map (λ q. cond (lt_z (pos 0) q) q (pos 0)) qs)
+sold qs = sum_ℤ (map (λ q. cond (lt_z (pos 0) q) q (pos 0)) qs)
 
 unfoldable pub bought : List ℤ → ℤ
-bought qs = sumℤ (map (λ q. cond (lt_z q (pos 0)) (neg_ℤ q) (pos 0)) qs)
+bought qs = sum_ℤ (map (λ q. cond (lt_z q (pos 0)) (neg_ℤ q) (pos 0)) qs)

@@ -7,7 +7,7 @@ use native.Mathlib.Omega.{arith}
 use native.Mathlib.Nat.{le_refl}
 use lib.IntN.{ℤ, pos, nat_abs, zero-*ℤ, +ℤ_idr, ◌-ℤ◌}
 use lib.ListN.{length, get_or, replicate, length-map}
-use Rattle.integers.specs.Lists.{sumℤ, AtMost}
+use Rattle.integers.specs.Lists.{sum_ℤ, AtMost}
 use Rattle.integers.proofs.Sizes.{size-sub}
 use Rattle.integers.proofs.Sums.{sum_bound, at_most_tail}
 use Rattle.rules.specs.Limits.{users_most, position_most, market_most}
@@ -73,7 +73,7 @@ module _ {p e x t i : List ℤ} {k : HourTerms} {q m : List ℤ} {s : List ℕ} 
   pub sum_asked : (length z ≤ users_most) × AtMost position_most z
   sum_asked = (omega (arith, z_long, a.amounts.lent.few), z_small)
 
-  pub market_small : nat_abs (sumℤ z) ≤ market_most
+  pub market_small : nat_abs (sum_ℤ z) ≤ market_most
   market_small = omega (arith, sum_bound z z_small, sum_asked.0)
 
   -- a total is no larger than the market and its threshold together, and can be shared
@@ -81,18 +81,18 @@ module _ {p e x t i : List ℤ} {k : HourTerms} {q m : List ℤ} {s : List ℕ} 
     size : n ≤ 2 * market_most
     shareable : Shareable (side up n) z
 
-  of_view : (up : Bool) (n : ℕ) → View k.upper k.lower (sumℤ z) (side up n) → Total up n
+  of_view : (up : Bool) (n : ℕ) → View k.upper k.lower (sum_ℤ z) (side up n) → Total up n
   unfolding side
   of_view true n (is_excess over is) =
       let h = thresholds_sound k a.terms in
       record {
-        size = omega (arith, ap nat_abs is, size-sub (sumℤ z) k.upper, (terms_small k a.terms).upper, market_small);
+        size = omega (arith, ap nat_abs is, size-sub (sum_ℤ z) k.upper, (terms_small k a.terms).upper, market_small);
         shareable = share_excess k.upper k.lower z h.0 h.1 n over is;
       }
   of_view false n (is_shortfall under is) =
       let h = thresholds_sound k a.terms in
       record {
-        size = omega (arith, ap nat_abs is, size-sub k.lower (sumℤ z), (terms_small k a.terms).lower, market_small);
+        size = omega (arith, ap nat_abs is, size-sub k.lower (sum_ℤ z), (terms_small k a.terms).lower, market_small);
         shareable = share_shortfall k.upper k.lower z h.0 h.1 n under is;
       }
 
@@ -100,7 +100,7 @@ module _ {p e x t i : List ℤ} {k : HourTerms} {q m : List ℤ} {s : List ℕ} 
   module _ (up : Bool) (n : ℕ) (is : side up n ≡ imbalance k.upper k.lower z) where
     of_side : Total up n
     unfolding imbalance
-    of_side = of_view up n (subst (View k.upper k.lower (sumℤ z)) (sym is) (view k.upper k.lower (sumℤ z)))
+    of_side = of_view up n (subst (View k.upper k.lower (sum_ℤ z)) (sym is) (view k.upper k.lower (sum_ℤ z)))
 
     pub side-fits : n ≤ 2 * market_most
     side-fits = of_side.size

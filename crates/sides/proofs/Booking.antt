@@ -6,8 +6,8 @@ use Prim.Native.Nat.{ℕ, ◌+◌, ◌≤◌, ◌<◌, zero-le}
 use native.Mathlib.Omega.{arith}
 use lib.IntN.{ℤ, pos, ◌-ℤ◌, ◌*ℤ◌}
 use lib.ListN.{length, get_or, set, length-map}
-use Rattle.integers.proofs.Counts.{get_d_map}
-use Rattle.integers.proofs.Sums.{length-zip, get_d_zip}
+use Rattle.integers.proofs.Counts.{get_or-map_at}
+use Rattle.integers.proofs.Sums.{length-zip, get_or-zip}
 use Rattle.integers.proofs.Passes.{Written, written_none, written_elem, written_next, written_all}
 use Rattle.sides.specs.Sides.{turn, Booked}
 
@@ -47,9 +47,9 @@ module _ {up : Bool} {price : ℤ} {ps ns ms p q m : List ℤ} {i : ℕ} (b : Bo
         let hn : i < length ns = omega arith in
         record {
           place = omega arith;
-          positions = written_next _ ps p i b.positions positions_long (pos 0) x h (ex ∙ sym (get_d_zip (λ x n. x -ℤ turn up n) ps ns i (pos 0) (pos 0) (pos 0) h hn));
-          quantity = written_next _ ns q i b.quantity quantity_long (pos 0) y hn (ey ∙ sym (get_d_map (turn up) ns i (pos 0) (pos 0) hn));
-          money = written_next _ ms m i b.money money_long (pos 0) z (omega arith) (ez ∙ sym (get_d_map (λ n. turn up n *ℤ price) ns i (pos 0) (pos 0) hn));
+          positions = written_next _ ps p i b.positions positions_long (pos 0) x h (ex ∙ sym (get_or-zip (λ x n. x -ℤ turn up n) ps ns i (pos 0) (pos 0) (pos 0) h hn));
+          quantity = written_next _ ns q i b.quantity quantity_long (pos 0) y hn (ey ∙ sym (get_or-map_at (turn up) ns i (pos 0) (pos 0) hn));
+          money = written_next _ ms m i b.money money_long (pos 0) z (omega arith) (ez ∙ sym (get_or-map_at (λ n. turn up n *ℤ price) ns i (pos 0) (pos 0) hn));
         }
 
   pub booking_all : length ps ≤ i → Booked up price ps p ns q m

@@ -2,7 +2,7 @@
 use mathlib.Core.Path.{◌≡◌, sym, ap, ◌∙◌}
 use mathlib.Core.Bool.{Bool, true}
 use Rattle.integers.specs.Ranges.{is_zero}
-use Rattle.integers.specs.Lists.{sumℤ, every}
+use Rattle.integers.specs.Lists.{sum_ℤ, every}
 use Rattle.integers.proofs.Machine.{back}
 use Rattle.rules.specs.Limits.{position_fit}
 use Rattle.rules.specs.Refusals.{unless, ◌then◌}
@@ -29,7 +29,7 @@ unfolding amounts_cause unless ◌then◌
 returns-then-not-is_zero c =
     let in_range : let a = c.args in all_fit a.entry.now a.exit.now a.title.now a.pooling.now ≡ true = sym c.amounts_fit.ensures ∙ c.if-not-amounts_fit.false
     in
-    let pooled : c.is_zero.result ≡ is_zero (sumℤ c.args.pooling.now) = c.is_zero.ensures ∙ ap is_zero (back _ c.sum_of-pooled.type_inv ∙ c.sum_of-pooled.ensures)
+    let pooled : c.is_zero.result ≡ is_zero (sum_ℤ c.args.pooling.now) = c.is_zero.ensures ∙ ap is_zero (back _ c.sum_of-pooled.type_inv ∙ c.sum_of-pooled.ensures)
     in
     rw (in_range, sym pooled ∙ c.if-not-is_zero.true)
 
@@ -38,7 +38,7 @@ unfolding amounts_cause unless ◌then◌
 returns-then-not-befores_fit c =
     let in_range : let a = c.args in all_fit a.entry.now a.exit.now a.title.now a.pooling.now ≡ true = sym c.amounts_fit.ensures ∙ c.if-not-amounts_fit.false
     in
-    let pooled : c.is_zero.result ≡ is_zero (sumℤ c.args.pooling.now) = c.is_zero.ensures ∙ ap is_zero (back _ c.sum_of-pooled.type_inv ∙ c.sum_of-pooled.ensures)
+    let pooled : c.is_zero.result ≡ is_zero (sum_ℤ c.args.pooling.now) = c.is_zero.ensures ∙ ap is_zero (back _ c.sum_of-pooled.type_inv ∙ c.sum_of-pooled.ensures)
     in
     let standing : (b : Bool) → c.befores_fit.result ≡ b
     → let a = c.args in
@@ -55,7 +55,7 @@ unfolding amounts_cause unless ◌then◌
 returns c =
     let in_range : let a = c.args in all_fit a.entry.now a.exit.now a.title.now a.pooling.now ≡ true = sym c.amounts_fit.ensures ∙ c.if-not-amounts_fit.false
     in
-    let pooled : c.is_zero.result ≡ is_zero (sumℤ c.args.pooling.now) = c.is_zero.ensures ∙ ap is_zero (back _ c.sum_of-pooled.type_inv ∙ c.sum_of-pooled.ensures)
+    let pooled : c.is_zero.result ≡ is_zero (sum_ℤ c.args.pooling.now) = c.is_zero.ensures ∙ ap is_zero (back _ c.sum_of-pooled.type_inv ∙ c.sum_of-pooled.ensures)
     in
     let standing : (b : Bool) → c.befores_fit.result ≡ b
     → let a = c.args in

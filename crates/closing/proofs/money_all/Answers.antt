@@ -3,7 +3,7 @@ use mathlib.Core.Path.{sym, ◌∙◌}
 use lib.IntN.{pos}
 use lib.ListN.{get_or, length-map}
 use Rattle.integers.proofs.Machine.{read, back}
-use Rattle.integers.proofs.Counts.{get_d_map}
+use Rattle.integers.proofs.Counts.{get_or-map_at}
 use Rattle.integers.proofs.Passes.{written_next, written_all}
 use Rattle.rules.specs.Market.{moneys}
 use borrow.Author.Rules.{rules}
@@ -17,7 +17,7 @@ loop-i-preserved c =
     let v = rw (back (get_or qs l.i (pos 0)) (search rules)) at c.money_of.ensures in (
       omega arith,
       written_next _ c.args.money.now _ _ l.invariant.1 (length-map qs _ ∙ sym c.requires.2) (pos 0) _ (omega arith)
-          (back _ c.money_of.type_inv ∙ v ∙ sym (get_d_map _ qs l.i (pos 0) (pos 0) (omega arith))),
+          (back _ c.money_of.type_inv ∙ v ∙ sym (get_or-map_at _ qs l.i (pos 0) (pos 0) (omega arith))),
     )
 
 pub returns : goal.returns

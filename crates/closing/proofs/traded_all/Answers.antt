@@ -5,9 +5,9 @@ use lib.IntN.{pos}
 use lib.ListN.{get_or, length-map}
 use mir.Syntax.{w64}
 use mir.Val.{to_z, of_z}
-use Rattle.integers.specs.Lists.{sumℤ}
+use Rattle.integers.specs.Lists.{sum_ℤ}
 use Rattle.integers.proofs.Machine.{back}
-use Rattle.integers.proofs.Counts.{get_d_map}
+use Rattle.integers.proofs.Counts.{get_or-map_at}
 use Rattle.integers.proofs.Passes.{added-fits, added_next}
 use Rattle.rules.specs.Limits.{position_most}
 use Rattle.closing.specs.Steps.{traded_of}
@@ -17,7 +17,7 @@ use native.Mathlib.Omega.{arith}
 use Rattle.closing.proofs.traded_all.Goals as goal
 
 pub loop-i-init : goal.loop-i-init
-unfolding sumℤ
+unfolding sum_ℤ
 loop-i-init c = search rules
 
 pub overflow_add-sum : goal.overflow_add-sum
@@ -26,7 +26,7 @@ overflow_add-sum c =
     ≡ get_or (map (traded_of c.args.sale) c.args.quantity.now)
     c.loop-i.i (pos 0) = let a = c.args in
     back _ c.traded_of-size.type_inv ∙ rw (back (get_or a.quantity.now c.loop-i.i (pos 0)) (search rules)) at c.traded_of-size.ensures
-    ∙ sym (get_d_map (traded_of a.sale) a.quantity.now c.loop-i.i (pos 0) (pos 0) (omega arith))
+    ∙ sym (get_or-map_at (traded_of a.sale) a.quantity.now c.loop-i.i (pos 0) (pos 0) (omega arith))
     in
     let l = c.loop-i in
     let a = c.args in
@@ -39,7 +39,7 @@ loop-i-preserved c =
     ≡ get_or (map (traded_of c.args.sale) c.args.quantity.now)
     c.loop-i.i (pos 0) = let a = c.args in
     back _ c.traded_of-size.type_inv ∙ rw (back (get_or a.quantity.now c.loop-i.i (pos 0)) (search rules)) at c.traded_of-size.ensures
-    ∙ sym (get_d_map (traded_of a.sale) a.quantity.now c.loop-i.i (pos 0) (pos 0) (omega arith))
+    ∙ sym (get_or-map_at (traded_of a.sale) a.quantity.now c.loop-i.i (pos 0) (pos 0) (omega arith))
     in
     let l = c.loop-i in
     let a = c.args in

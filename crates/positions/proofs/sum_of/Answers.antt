@@ -1,5 +1,5 @@
 -- The sum of the elements passed so far. Assumes nothing.
-use Rattle.integers.specs.Lists.{sumℤ}
+use Rattle.integers.specs.Lists.{sum_ℤ}
 use Rattle.integers.proofs.Machine.{back}
 use Rattle.integers.proofs.Passes.{added-fits, added_next}
 use Rattle.rules.specs.Limits.{position_most}
@@ -8,7 +8,7 @@ use native.Mathlib.Omega.{arith}
 use Rattle.positions.proofs.sum_of.Goals as goal
 
 pub loop-i-init : goal.loop-i-init
-unfolding sumℤ
+unfolding sum_ℤ
 loop-i-init c = search rules
 
 pub overflow_add-sum : goal.overflow_add-sum

@@ -3,7 +3,7 @@ use mathlib.Core.Path.{sym, ◌∙◌}
 use lib.IntN.{pos}
 use lib.ListN.{length-map, get_or}
 use Rattle.integers.proofs.Machine.{back}
-use Rattle.integers.proofs.Counts.{get_d_map}
+use Rattle.integers.proofs.Counts.{get_or-map_at}
 use Rattle.integers.proofs.Passes.{written_next}
 use Rattle.rules.specs.Market.{size}
 use Rattle.sides.specs.Sides.{side}
@@ -18,5 +18,5 @@ loop-i-preserved c =
     let f = size (side c.args.up 0) in
     let v = rw (back (get_or ps l.i (pos 0)) (search rules)) at c.size_on.ensures in (
       omega arith,
-      written_next _ c.args.sizes.now _ _ l.invariant.1 (length-map ps f ∙ sym c.requires.0) 0 _ (omega arith) (v ∙ sym (get_d_map f ps l.i 0 (pos 0) (omega arith))),
+      written_next _ c.args.sizes.now _ _ l.invariant.1 (length-map ps f ∙ sym c.requires.0) 0 _ (omega arith) (v ∙ sym (get_or-map_at f ps l.i 0 (pos 0) (omega arith))),
     )
