@@ -10,14 +10,14 @@ use rules::{Day, ZoneDay};
 
 // Of one zone: the hours done, and whether it is closed, 0 or 1.
 #[repr(C)]
-#[derive(Drop)]
+#[derive(Clone, Copy)]
 pub struct ZoneDayC {
     pub hours: i64,
     pub closed: i64,
 }
 
 #[repr(C)]
-#[derive(Drop)]
+#[derive(Clone, Copy)]
 pub struct DayC {
     pub users: i64,
     pub length: i64,
