@@ -1,0 +1,19 @@
+-- The places passed so far are the same. Assumes nothing.
+use mathlib.Core.Path.{◌≡◌, sym, ap₂, ◌∙◌}
+use mathlib.Core.Bool.{Bool, ◌&&◌}
+use Prim.Native.Nat.{◌-◌, ◌≤◌}
+use native.Mathlib.Omega.{arith}
+use lib.IntN.{pos}
+use lib.ListN.{length, get_or, take}
+use lib.Seq.{take_all}
+use Rattle.integers.proofs.Machine.{back}
+use Rattle.checking.specs.Same.{same_list}
+use Rattle.checking.proofs.Lists.{same-lengths, same_step}
+use borrow.Author.Rules.{rules}
+use Rattle.checking.proofs.same_list.Given as goal
+
+abbrev pub invariant-loop-i : goal.invariant-loop-i
+invariant-loop-i l = (l.i ≤ length l.a) × (l.all ≡ same_list (take l.i l.a) (take l.i l.b))
+
+abbrev pub decreases-loop-i : goal.decreases-loop-i
+decreases-loop-i l = length l.a - l.i
