@@ -12,7 +12,7 @@ use integers::both;
 
 // What a file that is read says besides its amounts: the hour, the zone's number (0 is H, 1 is L) and the number of
 // lines.
-#[derive(Drop)]
+#[derive(Clone, Copy)]
 pub struct FileRead {
     pub hour: i64,
     pub zone: i64,
@@ -20,7 +20,7 @@ pub struct FileRead {
 }
 
 // The cause of a refusal, 12 to 17, or what the file says.
-#[derive(Drop)]
+#[derive(Clone, Copy)]
 pub enum FileAnswer {
     Refused(u64),
     Read(FileRead),

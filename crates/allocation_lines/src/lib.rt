@@ -11,7 +11,7 @@ use allocation_row::{Line, follows_on, read_row, store};
 use csv_lines::line_at;
 
 // What lines that are read say besides their amounts: the hour, the zone's number and how many lines there are.
-#[derive(Drop)]
+#[derive(Clone, Copy)]
 pub struct LinesRead {
     pub hour: u32,
     pub zone: u32,
@@ -19,7 +19,7 @@ pub struct LinesRead {
 }
 
 // The cause of a refusal, 14 to 17, or what the lines say.
-#[derive(Drop)]
+#[derive(Clone, Copy)]
 pub enum LinesAnswer {
     Refused(u64),
     Read(LinesRead),

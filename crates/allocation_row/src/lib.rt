@@ -12,7 +12,7 @@ use csv_lines::field;
 use text::number::{Amount, Unsigned, read_amount, read_unsigned};
 
 // What a line's seven fields say.
-#[derive(Drop)]
+#[derive(Clone, Copy)]
 pub struct Row {
     pub hour: u32,
     pub zone: u32,
@@ -24,7 +24,7 @@ pub struct Row {
 }
 
 // What a line by itself says: its row, or the cause 14 or 15.
-#[derive(Drop)]
+#[derive(Clone, Copy)]
 pub enum Line {
     Good(Row),
     Faulty(u64),

@@ -25,7 +25,7 @@ use integers::{both, same};
 use text::writing::{digit_count, write_bytes};
 
 // The cause of a refusal, 18 to 20, or how many bytes were written.
-#[derive(Drop)]
+#[derive(Clone, Copy)]
 pub enum WriteAnswer {
     Refused(u64),
     Written(i64),

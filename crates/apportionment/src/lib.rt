@@ -13,7 +13,7 @@ const TOP_BIT: u64 = 0x8000_0000_0000_0000;
 // ---- whole units and remainders
 
 // A user's share: its whole units, and its fraction in parts of the sum.
-#[derive(Drop)]
+#[derive(Clone, Copy)]
 struct Share {
     whole: u64,
     fraction: u64,
@@ -68,7 +68,7 @@ fn sum_of(sizes: &[u64]) -> u64
 }
 
 // What a pass over the sizes finds: the whole units together, and the ends between which a cut of the remainders lies.
-#[derive(Drop)]
+#[derive(Clone, Copy)]
 struct Shares {
     given: u64,
     low: u64,
@@ -119,7 +119,7 @@ fn count_above(remainders: &[u64], at: u64) -> u64
 }
 
 // One more for each remainder above `at`, and for the first `ties` of those that are `at`.
-#[derive(Drop)]
+#[derive(Clone, Copy)]
 struct Cut {
     at: u64,
     ties: u64,

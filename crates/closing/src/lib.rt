@@ -11,7 +11,7 @@ ghost use Rattle.closing.specs.Steps.{sold_of, bought_of, traded_of, Asks, PartL
 use rules::ClosingTerms;
 
 // What was sold and bought, both as sizes.
-#[derive(Drop)]
+#[derive(Clone, Copy)]
 pub struct Sums {
     pub sold: i64,
     pub bought: i64,

@@ -14,7 +14,7 @@ use rules::{ClosingAnswer, HourAnswer, OpenAnswer, Outcome, Side, ThresholdsAnsw
 // ---- opening
 
 #[repr(C)]
-#[derive(Drop)]
+#[derive(Clone, Copy)]
 pub struct OpenC {
     pub cause: u64,
     pub day: DayC,
@@ -47,7 +47,7 @@ pub fn flat_open(answer: OpenAnswer) -> OpenC
 // ---- default thresholds
 
 #[repr(C)]
-#[derive(Drop)]
+#[derive(Clone, Copy)]
 pub struct ThresholdsC {
     pub cause: u64,
     pub upper: i64,
@@ -75,7 +75,7 @@ pub fn flat_thresholds(answer: ThresholdsAnswer) -> ThresholdsC
 
 // The side is 0 within the thresholds, 1 in an excess, 2 in a shortfall.
 #[repr(C)]
-#[derive(Drop)]
+#[derive(Clone, Copy)]
 pub struct HourC {
     pub cause: u64,
     pub day: DayC,
@@ -145,7 +145,7 @@ pub fn flat_hour(day: DayC, answer: HourAnswer) -> HourC
 // ---- a closing
 
 #[repr(C)]
-#[derive(Drop)]
+#[derive(Clone, Copy)]
 pub struct ClosingC {
     pub cause: u64,
     pub day: DayC,
@@ -175,7 +175,7 @@ pub fn flat_closing(day: DayC, answer: ClosingAnswer) -> ClosingC
 // ---- the hour's file
 
 #[repr(C)]
-#[derive(Drop)]
+#[derive(Clone, Copy)]
 pub struct FileC {
     pub cause: u64,
     pub hour: i64,
@@ -205,7 +205,7 @@ pub fn flat_file(answer: FileAnswer) -> FileC
 // ---- the hour's file, written
 
 #[repr(C)]
-#[derive(Drop)]
+#[derive(Clone, Copy)]
 pub struct WrittenC {
     pub cause: u64,
     pub bytes: i64,

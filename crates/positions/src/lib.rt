@@ -56,7 +56,7 @@ pub fn sum_of(amounts: &[i64]) -> i64
 // ---- rule 2
 
 // The market position against its thresholds: within them, or an excess or a shortfall and its total.
-#[derive(Drop)]
+#[derive(Clone, Copy)]
 pub enum Imbalance {
     Within,
     Excess(u64),

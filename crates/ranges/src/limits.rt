@@ -6,7 +6,7 @@ ghost use Rattle.rules.specs.Limits.{entry_fit, exit_fit, title_fit, pooling_fit
 ghost use Rattle.ranges.specs.Kinds.{fits, only_if};
 
 // What a constructor answers: the number as one of its kind, or that it is out of range.
-#[derive(Drop)]
+#[derive(Clone, Copy)]
 pub enum Checked {
     Position(Position),
     Threshold(Threshold),
@@ -30,7 +30,7 @@ impl Checked {
 // ---- single numbers
 
 // A position in kWh, before or after settlement.
-#[derive(Drop)]
+#[derive(Clone, Copy)]
 pub struct Position {
     pub kwh: i64,
 }
@@ -58,7 +58,7 @@ impl Position {
 }
 
 // A threshold of the market position in kWh.
-#[derive(Drop)]
+#[derive(Clone, Copy)]
 pub struct Threshold {
     pub kwh: i64,
 }
@@ -94,7 +94,7 @@ impl Threshold {
 }
 
 // A price in millionths of a euro per kWh.
-#[derive(Drop)]
+#[derive(Clone, Copy)]
 pub struct Price {
     pub micros: i64,
 }
@@ -118,7 +118,7 @@ impl Price {
 // ---- lists of amounts in kWh
 
 // Entries (EEA).
-#[derive(Drop)]
+#[derive(Clone, Copy)]
 pub struct Entry {}
 
 impl Entry {
@@ -134,7 +134,7 @@ impl Entry {
 }
 
 // Exits (XEA): already negative.
-#[derive(Drop)]
+#[derive(Clone, Copy)]
 pub struct Exit {}
 
 impl Exit {
@@ -150,7 +150,7 @@ impl Exit {
 }
 
 // Net title transfers (NCTTN).
-#[derive(Drop)]
+#[derive(Clone, Copy)]
 pub struct Title {}
 
 impl Title {
@@ -166,7 +166,7 @@ impl Title {
 }
 
 // Pooling transfers (IPT).
-#[derive(Drop)]
+#[derive(Clone, Copy)]
 pub struct Pooling {}
 
 impl Pooling {

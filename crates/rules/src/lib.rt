@@ -1,17 +1,16 @@
 // The types of the Gas Day: the record, what a call is told, and what it answers. The rules are the definitions of specs/.
 
-// Of one zone: the hours done, and whether it is closed.
-
 #![tactic(auto)]
 
-#[derive(Drop)]
+// Of one zone: the hours done, and whether it is closed.
+#[derive(Clone, Copy)]
 pub struct ZoneDay {
     pub hours: i64,
     pub closed: bool,
 }
 
 // The day record, which goes in by value and comes back by value. Its length is the number of hours that the day has.
-#[derive(Drop)]
+#[derive(Clone, Copy)]
 pub struct Day {
     pub users: i64,
     pub length: i64,
@@ -33,7 +32,7 @@ impl Day {
 }
 
 // A refusal: the number of its cause, and the same record.
-#[derive(Drop)]
+#[derive(Clone, Copy)]
 pub struct Refusal {
     pub number: u64,
     pub day: Day,
@@ -41,7 +40,7 @@ pub struct Refusal {
 
 // ---- opening
 
-#[derive(Drop)]
+#[derive(Clone, Copy)]
 pub enum OpenAnswer {
     Refused(u64),
     Opened(Day),
@@ -49,13 +48,13 @@ pub enum OpenAnswer {
 
 // ---- default thresholds
 
-#[derive(Drop)]
+#[derive(Clone, Copy)]
 pub struct Thresholds {
     pub upper: i64,
     pub lower: i64,
 }
 
-#[derive(Drop)]
+#[derive(Clone, Copy)]
 pub enum ThresholdsAnswer {
     Refused(u64),
     Defaults(Thresholds),
@@ -65,7 +64,7 @@ pub enum ThresholdsAnswer {
 
 // What an hour is told besides its lists: which hour of which zone, its two thresholds and its two prices.
 #[repr(C)]
-#[derive(Drop)]
+#[derive(Clone, Copy)]
 pub struct HourTerms {
     pub zone: i64,
     pub hour: i64,
@@ -76,33 +75,33 @@ pub struct HourTerms {
 }
 
 // Which side of its thresholds the market was on, and its total: how far.
-#[derive(Drop)]
+#[derive(Clone, Copy)]
 pub enum Side {
     Excess(i64),
     Shortfall(i64),
 }
 
 // The causers: place 0 at the lowest bit of the first word; and the number of marks.
-#[derive(Drop)]
+#[derive(Clone, Copy)]
 pub struct Marks {
     pub first: u64,
     pub second: u64,
     pub number: u64,
 }
 
-#[derive(Drop)]
+#[derive(Clone, Copy)]
 pub enum Outcome {
     Within,
     Settled(Side, Marks),
 }
 
-#[derive(Drop)]
+#[derive(Clone, Copy)]
 pub struct HourDone {
     pub day: Day,
     pub outcome: Outcome,
 }
 
-#[derive(Drop)]
+#[derive(Clone, Copy)]
 pub enum HourAnswer {
     Refused(Refusal),
     Done(HourDone),
@@ -112,7 +111,7 @@ pub enum HourAnswer {
 
 // What a closing is told besides its lists.
 #[repr(C)]
-#[derive(Drop)]
+#[derive(Clone, Copy)]
 pub struct ClosingTerms {
     pub zone: i64,
     pub excess_price: i64,
@@ -120,14 +119,14 @@ pub struct ClosingTerms {
 }
 
 // The record after a closing, and what was sold and bought, both as sizes.
-#[derive(Drop)]
+#[derive(Clone, Copy)]
 pub struct ClosingDone {
     pub day: Day,
     pub sold: i64,
     pub bought: i64,
 }
 
-#[derive(Drop)]
+#[derive(Clone, Copy)]
 pub enum ClosingAnswer {
     Refused(Refusal),
     Closed(ClosingDone),

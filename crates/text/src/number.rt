@@ -3,14 +3,14 @@ ghost use Rattle.std.specs.Prelude.{◌≡◌, length};
 ghost use Rattle.text.specs.Numbers.{digits_of, unsigned_of, whole_of, decimals_of, mwh_of, size_of, positive, negative, amount_of};
 
 // An unsigned number.
-#[derive(Drop)]
+#[derive(Clone, Copy)]
 pub enum Unsigned {
     Number(u32),
     NoNumber,
 }
 
 // A signed amount of energy.
-#[derive(Drop)]
+#[derive(Clone, Copy)]
 pub enum Amount {
     Kwh(i64),
     NoAmount,

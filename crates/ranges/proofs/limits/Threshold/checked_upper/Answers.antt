@@ -1,0 +1,19 @@
+-- Each branch by what the range test answered. Assumes nothing.
+use borrow.Author.Rules.{rules}
+use Rattle.integers.proofs.Machine.{read}
+use Rattle.rules.specs.Limits.{upper_fit}
+use Rattle.ranges.specs.Kinds.{only_if}
+use Rattle.ranges.proofs.Checked.{answered}
+use Rattle.ranges.proofs.limits.Threshold.checked_upper.Goals as goal
+
+pub returns-then-within : goal.returns-then-within
+unfolding upper_fit only_if
+returns-then-within c =
+    let s = c in
+    simp (read c.fits.kwh, answered upper_fit c.fits.kwh c.within.ensures c.if-within.taken)
+
+pub returns-else-within : goal.returns-else-within
+unfolding upper_fit only_if
+returns-else-within c =
+    let s = c in
+    simp (answered upper_fit c.fits.kwh c.within.ensures c.if-within.left)
