@@ -1,11 +1,9 @@
 -- The places passed so far hold the value. Assumes nothing.
-use mathlib.Core.Path.{◌≡◌, sym, ap, ◌∙◌}
+use mathlib.Core.Path.{sym, ap, ◌∙◌}
 use mathlib.Core.Bool.{Bool, ◌&&◌}
-use Prim.Native.Nat.{◌-◌, ◌≤◌}
 use native.Mathlib.Omega.{arith}
 use lib.Dec.{eqb}
-use lib.ListN.{length, get_or, take}
-use lib.Seq.{take_all}
+use lib.ListN.{get_or}
 use Rattle.integers.specs.Lists.{every}
 use Rattle.integers.proofs.Passes.{every-step}
 use borrow.Author.Rules.{rules}

@@ -1,14 +1,9 @@
 -- The places passed so far hold the value. Assumes nothing.
-use mathlib.Core.Path.{◌≡◌, sym, ap, ◌∙◌}
-use mathlib.Core.Bool.{Bool, ◌&&◌}
+use mathlib.Core.Path.{◌≡◌}
 use Prim.Native.Nat.{◌-◌, ◌≤◌}
-use native.Mathlib.Omega.{arith}
 use lib.Dec.{eqb}
-use lib.ListN.{length, get_or, take}
-use lib.Seq.{take_all}
+use lib.ListN.{length, take}
 use Rattle.integers.specs.Lists.{every}
-use Rattle.integers.proofs.Passes.{every-step}
-use borrow.Author.Rules.{rules}
 use Rattle.checking.proofs.all_scratch.Given as goal
 
 abbrev pub invariant-loop-i : goal.invariant-loop-i

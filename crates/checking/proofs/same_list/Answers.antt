@@ -1,12 +1,8 @@
 -- The places passed so far are the same. Assumes nothing.
-use mathlib.Core.Path.{◌≡◌, sym, ap₂, ◌∙◌}
-use mathlib.Core.Bool.{Bool, ◌&&◌}
-use Prim.Native.Nat.{◌-◌, ◌≤◌, ◌<◌}
+use mathlib.Core.Path.{sym}
+use Prim.Native.Nat.{◌<◌}
 use native.Mathlib.Omega.{arith}
-use lib.IntN.{pos}
-use lib.ListN.{length, get_or, take}
-use lib.Seq.{take_all}
-use Rattle.integers.proofs.Machine.{back}
+use lib.ListN.{length}
 use Rattle.checking.specs.Same.{same_list}
 use Rattle.checking.proofs.Lists.{same-lengths, same_step}
 use borrow.Author.Rules.{rules}

@@ -1,6 +1,5 @@
 -- By the parts before and after. Assumes nothing.
 use Rattle.checking.specs.Same.{same_outside}
-use borrow.Author.Rules.{rules}
 use Rattle.checking.proofs.same_outside.Goals as goal
 
 pub returns : goal.returns

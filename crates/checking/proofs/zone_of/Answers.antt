@@ -1,7 +1,6 @@
 -- By both numbers. Assumes nothing.
 use Rattle.integers.proofs.Machine.{read}
 use Rattle.checking.specs.Same.{zone_by}
-use borrow.Author.Rules.{rules}
 use Rattle.checking.proofs.zone_of.Goals as goal
 
 pub returns : goal.returns

@@ -1,11 +1,11 @@
 -- Each turn adds at one place. Assumes nothing.
 use mathlib.Core.Path.{sym, ◌∙◌}
-use Prim.Native.Nat.{◌-◌, ◌≤◌, ◌<◌}
+use Prim.Native.Nat.{◌<◌}
 use native.Mathlib.Omega.{arith}
 use lib.IntN.{pos}
 use lib.ListN.{length, get_or}
 use Rattle.integers.proofs.Machine.{back}
-use Rattle.integers.proofs.Passes.{Written, written_none, written_elem, written_next, written_all}
+use Rattle.integers.proofs.Passes.{written_elem, written_next, written_all}
 use Rattle.checking.specs.Sums.{added}
 use Rattle.checking.proofs.Near.{added_long, added_at}
 use borrow.Author.Rules.{rules}

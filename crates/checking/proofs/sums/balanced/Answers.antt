@@ -1,6 +1,5 @@
 -- By both tests. Assumes nothing.
 use Rattle.checking.specs.Sums.{near, balanced}
-use borrow.Author.Rules.{rules}
 use Rattle.checking.proofs.sums.balanced.Goals as goal
 
 pub returns : goal.returns

@@ -1,7 +1,6 @@
 -- By the range. Assumes nothing.
 use Rattle.integers.proofs.Machine.{read}
 use Rattle.checking.specs.Sums.{near}
-use borrow.Author.Rules.{rules}
 use Rattle.checking.proofs.sums.near.Goals as goal
 
 pub returns : goal.returns

@@ -2,7 +2,6 @@
 use mathlib.Core.Path.{sym, ◌∙◌}
 use Rattle.integers.proofs.Machine.{read}
 use Rattle.checking.proofs.Near.{near_fits, plus-near, plus_far}
-use borrow.Author.Rules.{rules}
 use Rattle.checking.proofs.sums.plus.Goals as goal
 
 pub overflow_add-result : goal.overflow_add-result
