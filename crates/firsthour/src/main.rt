@@ -5,7 +5,7 @@
 
 ghost use Rattle.std.specs.Prelude.{◌≤◌, ◌<◌, length};
 ghost use Rattle.allocation_file.specs.File.{file_of};
-ghost use Rattle.io.specs.Counts.{IsPrefixLen};
+ghost use Rattle.std.specs.Counts.{IsPrefixLen};
 ghost use Rattle.text.specs.Puts.{Put};
 ghost use Rattle.hour_text.specs.Lent.{text_most};
 ghost use Rattle.firsthour.specs.Examples.{ExamplesPrinted};
