@@ -56,7 +56,7 @@ module _ {sizes : List ℕ} {total : ℕ} {rs : List ℕ} {out : List ℤ} {give
   out_length = ap length k.wholes ∙ length-map (map (whole sizes total) sizes) pos ∙ length-map sizes (whole sizes total)
 
   out_at : (i : ℕ) → get_or out i (pos 0) ≡ pos (get_or (map (whole sizes total) sizes) i 0)
-  out_at i = ap (λ (q : List ℤ). get_or q i (pos 0)) k.wholes ∙ ListN.get_d_map pos (map (whole sizes total) sizes) i 0
+  out_at i = ap (λ (q : List ℤ). get_or q i (pos 0)) k.wholes ∙ ListN.get_or-map pos (map (whole sizes total) sizes) i 0
 
   pub hand_asked : (at ties : ℕ) → IsCut rs (total - given) at ties → at ≤ market_most → HandAsks rs at ties (total - given) out
   hand_asked at ties c b = record {
@@ -81,4 +81,4 @@ module _ {sizes : List ℕ} {total : ℕ} {rs : List ℕ} {out : List ℤ} {give
         k.fractions,
       )
       (ap pos (sym (settled-get_or sizes total i j ∙ settled_cut sizes total n.some i j at ties c)))
-      ∙ sym (ListN.get_d_map pos (settled sizes total) i 0))
+      ∙ sym (ListN.get_or-map pos (settled sizes total) i 0))

@@ -1,11 +1,11 @@
 -- The row and the column of the table of defaults. Assumes nothing.
 use mathlib.Core.Path.{◌≡◌}
 use mathlib.Core.Bool.{true, false}
-use Prim.Native.Nat.{◌≤◌, ◌<◌}
+use Prim.Native.Nat.{◌≤◌, ◌<◌, ◌^◌}
 use native.Mathlib.Omega.{arith}
 use lib.Dec.{lit≤}
 use lib.IntN.{ℤ, pos, nat_abs, ◌-ℤ◌}
-use lib.Signed.{lt_z, le_z}
+use lib.Signed.{lt_z, le_z, mag}
 use Rattle.integers.specs.Ranges.{natural}
 use Rattle.integers.proofs.Linear.{lin1, diffs, linear}
 use Rattle.integers.proofs.Tests.{and_true, natural-size, range_size}
@@ -23,6 +23,12 @@ row_fits zone e = go (zone_of_lem zone e)
 pub month_size : (month : ℤ) → month_fit month ≡ true → nat_abs month ≤ 12
 unfolding month_fit
 month_size month e = range_size 12 (pos 1) (pos 12) month (lit≤ tt) (lit≤ tt) e
+
+less_one_small : (x : ℤ) → nat_abs x ≤ 12 → mag (x -ℤ pos 1) < 2 ^ 63
+less_one_small = lin1 _ (λ a b. simp diffs (omega linear))
+
+pub less_one : (month : ℤ) → month_fit month ≡ true → mag (month -ℤ pos 1) < 2 ^ 63
+less_one month e = less_one_small month (month_size month e)
 
 pub column_fits : (month : ℤ) → month_fit month ≡ true → natural (month -ℤ pos 1) < 12
 unfolding month_fit

@@ -13,27 +13,23 @@ use borrow.Author.Rules.{rules}
 use native.Mathlib.Omega.{arith}
 use Rattle.apportionment.proofs.count_above.Goals as goal
 
--- the remainder of the turn, and its unit
-abbrev remainder : goal.In-loop-i invariant-loop decreases-loop → ℕ
-remainder c = get_or c.before.before.args.remainders.now c.before.loop.i 0
-
-unit : (c : goal.In-loop-i invariant-loop decreases-loop) (base : ℕ) → base + c.args.at ≡ 9223372036854775807
-    → ((remainder c + base) / 9223372036854775808 ≡ bit (ltb c.args.at (remainder c)))
-    × (bit (ltb c.args.at (remainder c)) ≤ 1)
-unit c base e = (
-  top_bit (remainder c) c.args.at base e (c.requires.1.at c.loop-i.i),
-  bit-ltb-le c.args.at (remainder c),
-
-)
-
 pub loop-i-init : goal.loop-i-init
 unfolding count
 loop-i-init c = search rules
 
 pub loop-i-preserved : goal.loop-i-preserved
 loop-i-preserved c =
+    let remainder : ℕ = get_or c.args.remainders.now c.loop-i.i 0
+     in
+    let unit : (base : ℕ) → base + c.args.at ≡ 9223372036854775807
+        → ((remainder + base) / 9223372036854775808 ≡ bit (ltb c.args.at remainder))
+        × (bit (ltb c.args.at remainder) ≤ 1) = λ base e. (
+      top_bit remainder c.args.at base e (c.requires.1.at c.loop-i.i),
+      bit-ltb-le c.args.at remainder,
+    )
+     in
     let a = c.args in
     let l = c.loop-i in
     let e = count-step (λ r. ltb a.at r) a.remainders.now l.i 0 (omega arith) in
-    let u = unit c _ l.invariant.3 in
+    let u = unit _ l.invariant.3 in
     (omega arith, omega (arith, e, u), omega (arith, u), l.invariant.3)

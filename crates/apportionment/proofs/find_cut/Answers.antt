@@ -10,17 +10,12 @@ use Rattle.apportionment.proofs.find_cut.Goals as goal
 
 pub loop-hi-init : goal.loop-hi-init
 loop-hi-init c =
-    let s = c in
     (cut_begins c.args.remainders.now _ _ _ c.requires (omega arith), c.requires.enough, sym c.requires.none, omega arith, omega arith)
 
 pub returns : goal.returns
 returns c =
-    let s = c in
     let l = c.loop-hi in
     let e : l.hi ≡ suc l.lo = omega arith in
     let r = c.args.remainders.now in
     let k : above r l.hi + same r l.hi ≡ above r l.lo = rw e (above-suc r l.lo) in
     (record { adds = omega arith; fits = omega (arith, k) }, omega (arith, c.requires.small))
-
-pub apportionment::count_above : goal.apportionment::count_above
-apportionment::count_above c = ?

@@ -13,44 +13,31 @@ use borrow.Author.Rules.{rules}
 use native.Mathlib.Omega.{arith}
 use Rattle.apportionment.proofs.hand_out_above.Goals as goal
 
--- of a turn: the function's entry, the turn's place in `out`, what stands there, and the turn's unit
-abbrev start : goal.In-loop-i invariant-loop decreases-loop → goal.Start invariant-loop decreases-loop
-start c = c.before.before.before
-
-room : (c : goal.In-loop-i invariant-loop decreases-loop)
-    → (c.loop-i.i < length (start c).args.out.now) × (length c.loop-i.out ≡ length (start c).args.out.now)
-room c = (omega (arith, (start c).requires.long), c.loop-i.invariant.2.long)
-
-old : (c : goal.In-loop-i invariant-loop decreases-loop)
-    → get_or c.loop-i.out c.loop-i.i (pos 0) ≡ get_or (start c).args.out.now c.loop-i.i (pos 0)
-old c =
-    let a = (start c).args in
-    let l = c.loop-i in
-    written_elem _ a.out.now l.out l.i l.invariant.2 (raised_length a.remainders.now a.at 0 a.out.now) (pos 0) (room c).0
-
-abbrev remainder : goal.In-loop-i invariant-loop decreases-loop → ℕ
-remainder c = get_or (start c).args.remainders.now c.before.loop.i 0
-
-unit : (c : goal.In-loop-i invariant-loop decreases-loop) (base : ℕ) → base + (start c).args.at ≡ 9223372036854775807
-    → ((remainder c + base) / 9223372036854775808 ≡ bit (ltb (start c).args.at (remainder c))) × (bit (ltb (start c).args.at (remainder c)) ≤ 1)
-unit c base e = (
-  top_bit (remainder c) (start c).args.at base e ((start c).requires.bounded.at c.loop-i.i),
-  bit-ltb-le (start c).args.at (remainder c),
-
-)
-
 pub loop-i-preserved : goal.loop-i-preserved
 loop-i-preserved c =
-    let d = c in
+    let room : (c.loop-i.i < length c.args.out.now) × (length c.loop-i.out ≡ length c.args.out.now) = (omega (arith, c.requires.long), c.loop-i.invariant.2.long)
+     in
+    let old : get_or c.loop-i.out c.loop-i.i (pos 0) ≡ get_or c.args.out.now c.loop-i.i (pos 0) = let a = c.args in
+        let l = c.loop-i in
+        written_elem _ a.out.now l.out l.i l.invariant.2 (raised_length a.remainders.now a.at 0 a.out.now) (pos 0) room.0
+     in
+    let remainder : ℕ = get_or c.args.remainders.now c.loop-i.i 0
+     in
+    let unit : (base : ℕ) → base + c.args.at ≡ 9223372036854775807
+        → ((remainder + base) / 9223372036854775808 ≡ bit (ltb c.args.at remainder)) × (bit (ltb c.args.at remainder) ≤ 1) = λ base e. (
+      top_bit remainder c.args.at base e (c.requires.bounded.at c.loop-i.i),
+      bit-ltb-le c.args.at remainder,
+    )
+     in
     let l = c.loop-i in
-    let a = (start d).args in
+    let a = c.args in
     let r = a.remainders.now in
     let o = a.out.now in
-    let v = rw (back _ (search rules), old d, (unit d _ l.invariant.1).0, taken-above r a.at l.i) at c.plus.ensures in (
+    let v = rw (back (get_or l.out l.i (pos 0)) (search rules), old, (unit _ l.invariant.1).0, taken-above r a.at l.i) at c.plus.ensures in (
       omega arith,
       l.invariant.1,
-      written_next _ o l.out l.i l.invariant.2 (raised_length r a.at 0 o) (pos 0) _ (omega (arith, room d))
-          (back _ c.plus.type-inv ∙ v ∙ sym (raised_at r a.at 0 o l.i (omega (arith, room d)))),
+      written_next _ o l.out l.i l.invariant.2 (raised_length r a.at 0 o) (pos 0) _ (omega (arith, room))
+          (back _ c.plus.type_inv ∙ v ∙ sym (raised_at r a.at 0 o l.i (omega (arith, room)))),
     )
 
 pub returns : goal.returns

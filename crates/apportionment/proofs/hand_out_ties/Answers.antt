@@ -16,86 +16,130 @@ use borrow.Author.Rules.{rules}
 use native.Mathlib.Omega.{arith}
 use Rattle.apportionment.proofs.hand_out_ties.Goals as goal
 
--- of a turn: the function's entry; the turn's place, since units are left; what stands there in `out`; and the turn's unit
-abbrev start : goal.In-loop-units invariant-loop decreases-loop → goal.Start invariant-loop decreases-loop
-start c = c.before.before.before
-
-room : (c : goal.In-loop-units invariant-loop decreases-loop)
-    → (c.loop-units.i < length (start c).args.remainders.now) × (length (start c).args.remainders.now ≡ length (start c).args.out.now)
-    × (length c.loop-units.out ≡ length (start c).args.out.now)
-room c =
-    let a = (start c).args in
-    let l = c.loop-units in (
-      got-less a.remainders.now a.spare a.at a.ties (start c).requires.cut l.i (omega arith) l.invariant.0,
-      (start c).requires.long,
-      l.invariant.3.long,
-    )
-
-old : (c : goal.In-loop-units invariant-loop decreases-loop)
-    → get_or c.loop-units.out c.loop-units.i (pos 0) ≡ get_or (start c).args.out.now c.loop-units.i (pos 0)
-old c =
-    let a = (start c).args in
-    let l = c.loop-units in
-    written_elem _ a.out.now l.out l.i l.invariant.3 (raised_length a.remainders.now a.at a.ties a.out.now)
-    (pos 0) (omega (arith, room c))
-
-abbrev remainder : goal.In-loop-units invariant-loop decreases-loop → ℕ
-remainder c = get_or (start c).args.remainders.now c.before.loop.i 0
-
-abbrev given : goal.In-loop-units invariant-loop decreases-loop → ℕ
-given c = bit (taken (start c).args.remainders.now (start c).args.at (start c).args.ties c.before.loop.i)
-
-unit : (c : goal.In-loop-units invariant-loop decreases-loop) (u : ℕ)
-    → u ≡ bit (ltb (start c).args.at (remainder c) || eqb (start c).args.at (remainder c) && ltb 0 c.loop-units.left)
-    → (u ≡ given c) × (u ≤ 1)
-unit c u e =
-    let a = (start c).args in
-    let l = c.loop-units in
-    let q = e ∙ sym (ap bit (taken-left a.remainders.now a.at a.ties l.left l.i l.invariant.1)) in
-    (q, omega (arith, q, bit_le (taken a.remainders.now a.at a.ties l.i)))
-
 pub loop-units-init : goal.loop-units-init
 unfolding sum tabulate count
 loop-units-init c = (omega arith, omega arith, omega arith, written_none _ c.args.out.now)
 
 pub bounds-remainders-i : goal.bounds-remainders-i
-bounds-remainders-i c = omega (arith, room c)
+bounds-remainders-i c =
+    let room : (c.loop-units.i < length c.args.remainders.now) × (length c.args.remainders.now ≡ length c.args.out.now)
+        × (length c.loop-units.out ≡ length c.args.out.now) = let a = c.args in
+        let l = c.loop-units in (
+          got-less a.remainders.now a.spare a.at a.ties c.requires.cut l.i (omega arith) l.invariant.0,
+          c.requires.long,
+          l.invariant.3.long,
+        )
+     in
+    omega (arith, room)
 
 pub slice_copy_out-plus : goal.slice_copy_out-plus
-slice_copy_out-plus c = omega (arith, room c)
+slice_copy_out-plus c =
+    let room : (c.loop-units.i < length c.args.remainders.now) × (length c.args.remainders.now ≡ length c.args.out.now)
+        × (length c.loop-units.out ≡ length c.args.out.now) = let a = c.args in
+        let l = c.loop-units in (
+          got-less a.remainders.now a.spare a.at a.ties c.requires.cut l.i (omega arith) l.invariant.0,
+          c.requires.long,
+          l.invariant.3.long,
+        )
+     in
+    omega (arith, room)
 
 pub plus-requires : goal.plus-requires
 plus-requires c =
-    let d = c in (
-      read_le (get_or c.loop-units.out c.loop-units.i (pos 0)) _ (rw (old d) ((start d).requires.small c.loop-units.i)),
-      omega (arith, unit d _ c.unit_for-unit.ensures),
+    let room : (c.loop-units.i < length c.args.remainders.now) × (length c.args.remainders.now ≡ length c.args.out.now)
+        × (length c.loop-units.out ≡ length c.args.out.now) = let a = c.args in
+        let l = c.loop-units in (
+          got-less a.remainders.now a.spare a.at a.ties c.requires.cut l.i (omega arith) l.invariant.0,
+          c.requires.long,
+          l.invariant.3.long,
+        )
+     in
+    let old : get_or c.loop-units.out c.loop-units.i (pos 0) ≡ get_or c.args.out.now c.loop-units.i (pos 0) = let a = c.args in
+        let l = c.loop-units in
+        written_elem _ a.out.now l.out l.i l.invariant.3 (raised_length a.remainders.now a.at a.ties a.out.now)
+        (pos 0) (omega (arith, room))
+     in
+    let remainder : ℕ = get_or c.args.remainders.now c.loop-units.i 0
+     in
+    let given : ℕ = bit (taken c.args.remainders.now c.args.at c.args.ties c.loop-units.i)
+     in
+    let unit : (u : ℕ)
+        → u ≡ bit (ltb c.args.at remainder || eqb c.args.at remainder && ltb 0 c.loop-units.left)
+        → (u ≡ given) × (u ≤ 1) = λ u e. let a = c.args in
+        let l = c.loop-units in
+        let q = e ∙ sym (ap bit (taken-left a.remainders.now a.at a.ties l.left l.i l.invariant.1)) in
+        (q, omega (arith, q, bit_le (taken a.remainders.now a.at a.ties l.i)))
+     in
+    (
+      read_le (get_or c.loop-units.out c.loop-units.i (pos 0)) _ (rw old (c.requires.small c.loop-units.i)),
+      omega (arith, unit _ c.unit_for-unit.ensures),
     )
 
 pub bounds-out-i : goal.bounds-out-i
-bounds-out-i c = omega (arith, room c)
+bounds-out-i c =
+    let room : (c.loop-units.i < length c.args.remainders.now) × (length c.args.remainders.now ≡ length c.args.out.now)
+        × (length c.loop-units.out ≡ length c.args.out.now) = let a = c.args in
+        let l = c.loop-units in (
+          got-less a.remainders.now a.spare a.at a.ties c.requires.cut l.i (omega arith) l.invariant.0,
+          c.requires.long,
+          l.invariant.3.long,
+        )
+     in
+    omega (arith, room)
 
 pub loop-units-smaller : goal.loop-units-smaller
-loop-units-smaller c = omega (arith, room c)
+loop-units-smaller c =
+    let room : (c.loop-units.i < length c.args.remainders.now) × (length c.args.remainders.now ≡ length c.args.out.now)
+        × (length c.loop-units.out ≡ length c.args.out.now) = let a = c.args in
+        let l = c.loop-units in (
+          got-less a.remainders.now a.spare a.at a.ties c.requires.cut l.i (omega arith) l.invariant.0,
+          c.requires.long,
+          l.invariant.3.long,
+        )
+     in
+    omega (arith, room)
 
 pub loop-units-preserved : goal.loop-units-preserved
 loop-units-preserved c =
-    let d = c in
+    let room : (c.loop-units.i < length c.args.remainders.now) × (length c.args.remainders.now ≡ length c.args.out.now)
+        × (length c.loop-units.out ≡ length c.args.out.now) = let a = c.args in
+        let l = c.loop-units in (
+          got-less a.remainders.now a.spare a.at a.ties c.requires.cut l.i (omega arith) l.invariant.0,
+          c.requires.long,
+          l.invariant.3.long,
+        )
+     in
+    let old : get_or c.loop-units.out c.loop-units.i (pos 0) ≡ get_or c.args.out.now c.loop-units.i (pos 0) = let a = c.args in
+        let l = c.loop-units in
+        written_elem _ a.out.now l.out l.i l.invariant.3 (raised_length a.remainders.now a.at a.ties a.out.now)
+        (pos 0) (omega (arith, room))
+     in
+    let remainder : ℕ = get_or c.args.remainders.now c.loop-units.i 0
+     in
+    let given : ℕ = bit (taken c.args.remainders.now c.args.at c.args.ties c.loop-units.i)
+     in
+    let unit : (u : ℕ)
+        → u ≡ bit (ltb c.args.at remainder || eqb c.args.at remainder && ltb 0 c.loop-units.left)
+        → (u ≡ given) × (u ≤ 1) = λ u e. let a = c.args in
+        let l = c.loop-units in
+        let q = e ∙ sym (ap bit (taken-left a.remainders.now a.at a.ties l.left l.i l.invariant.1)) in
+        (q, omega (arith, q, bit_le (taken a.remainders.now a.at a.ties l.i)))
+     in
     let l = c.loop-units in
-    let a = (start d).args in
+    let a = c.args in
     let r = a.remainders.now in
     let o = a.out.now in
-    let u = unit d _ c.unit_for-unit.ensures in
-    let v = rw (back _ (search rules), old d, u.0) at c.plus.ensures in (
-      omega (arith, room d),
-      omega (arith, count-step (λ x. eqb a.at x) r l.i 0 (room d).0, c.ties_after-left.ensures),
+    let u = unit _ c.unit_for-unit.ensures in
+    let v = rw (back (get_or l.out l.i (pos 0)) (search rules), old, u.0) at c.plus.ensures in (
+      omega (arith, room),
+      omega (arith, count-step (λ x. eqb a.at x) r l.i 0 room.0, c.ties_after-left.ensures),
       omega (arith, got-next r a.at a.ties l.i, u),
-      written_next _ o l.out l.i l.invariant.3 (raised_length r a.at a.ties o) (pos 0) _ (omega (arith, room d))
-          (back _ c.plus.type-inv ∙ v ∙ sym (raised_at r a.at a.ties o l.i (omega (arith, room d)))),
+      written_next _ o l.out l.i l.invariant.3 (raised_length r a.at a.ties o) (pos 0) _ (omega (arith, room))
+          (back _ c.plus.type_inv ∙ v ∙ sym (raised_at r a.at a.ties o l.i (omega (arith, room)))),
     )
 
 pub returns : goal.returns
 returns c =
-    let s = c in
     let a = c.args in
     let l = c.loop-units in
     written_rest _ a.out.now l.out l.i l.invariant.3 (raised_length a.remainders.now a.at a.ties a.out.now)

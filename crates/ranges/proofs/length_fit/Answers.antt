@@ -6,4 +6,4 @@ use Rattle.ranges.proofs.length_fit.Goals as goal
 
 pub returns : goal.returns
 unfolding length_fit
-returns c = simp (c.within.ensures, read c.fits.length)
+returns c = simp (c.within.ensures, read c.ranges.length)

@@ -6,4 +6,4 @@ use Rattle.ranges.proofs.month_fit.Goals as goal
 
 pub returns : goal.returns
 unfolding month_fit
-returns c = simp (c.within.ensures, read c.fits.month)
+returns c = simp (c.within.ensures, read c.ranges.month)

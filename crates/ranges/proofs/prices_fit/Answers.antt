@@ -10,11 +10,8 @@ use Rattle.ranges.proofs.prices_fit.Goals as goal
 pub returns : goal.returns
 unfolding prices_fit
 returns c =
-    let f = c.fits in
+    let f = c.ranges in
     c.both.ensures
     ∙ ap₂ ◌&&◌
-    (tested price_fit _ f.excess c.fits2.ensures c.checked.ensures refl)
-    (tested price_fit _ f.shortfall c.fits3.ensures c.checked-2.ensures refl)
-
-pub ranges::limits::Price::checked : goal.ranges::limits::Price::checked
-ranges::limits::Price::checked c = ?
+    (tested price_fit _ f.excess c.fits.ensures c.checked.ensures refl)
+    (tested price_fit _ f.shortfall c.fits-2.ensures c.checked-2.ensures refl)

@@ -10,18 +10,11 @@ pub returns : goal.returns
 unfolding terms_fit
 returns c =
     let k = c.args.terms in
-    let g = (search rules) in
-    let u = back k.upper g.1.1.0.1 in
-    let l = back k.lower g.1.1.1.0.1 in
-    let e = back k.excess_price g.1.1.1.1.0.1 in
-    let s = back k.shortfall_price g.1.1.1.1.1.0.1 in
+    let u = back k.upper (search rules) in
+    let l = back k.lower (search rules) in
+    let e = back k.excess_price (search rules) in
+    let s = back k.shortfall_price (search rules) in
     c.both.ensures
     ∙ ap₂ ◌&&◌
     (rw (u, l) at c.thresholds_fit.ensures)
     (rw (e, s) at c.prices_fit.ensures)
-
-pub ranges::thresholds_fit : goal.ranges::thresholds_fit
-ranges::thresholds_fit c = ?
-
-pub ranges::prices_fit : goal.ranges::prices_fit
-ranges::prices_fit c = ?

@@ -8,14 +8,8 @@ use Rattle.ranges.proofs.thresholds_fit.Goals as goal
 
 pub returns : goal.returns
 returns c =
-    let f = c.fits in
+    let f = c.ranges in
     c.both.ensures
     ∙ ap₂ ◌&&◌
-    (tested upper_fit _ f.upper c.fits2.ensures c.checked_upper.ensures refl)
-    (tested lower_fit _ f.lower c.fits3.ensures c.checked_lower.ensures refl)
-
-pub ranges::limits::Threshold::checked_upper : goal.ranges::limits::Threshold::checked_upper
-ranges::limits::Threshold::checked_upper c = ?
-
-pub ranges::limits::Threshold::checked_lower : goal.ranges::limits::Threshold::checked_lower
-ranges::limits::Threshold::checked_lower c = ?
+    (tested upper_fit _ f.upper c.fits.ensures c.checked_upper.ensures refl)
+    (tested lower_fit _ f.lower c.fits-2.ensures c.checked_lower.ensures refl)

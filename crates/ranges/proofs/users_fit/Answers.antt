@@ -6,4 +6,4 @@ use Rattle.ranges.proofs.users_fit.Goals as goal
 
 pub returns : goal.returns
 unfolding users_fit
-returns c = simp (c.within.ensures, read c.fits.users)
+returns c = simp (c.within.ensures, read c.ranges.users)

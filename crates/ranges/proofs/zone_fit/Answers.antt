@@ -6,4 +6,4 @@ use Rattle.ranges.proofs.zone_fit.Goals as goal
 
 pub returns : goal.returns
 unfolding zone_fit
-returns c = simp (c.within.ensures, read c.fits.zone)
+returns c = simp (c.within.ensures, read c.ranges.zone)

@@ -9,11 +9,9 @@ use Rattle.ranges.proofs.limits.Price.checked.Goals as goal
 pub returns-then-within : goal.returns-then-within
 unfolding price_fit only_if
 returns-then-within c =
-    let s = c in
-    simp (read c.fits.micros, answered price_fit c.fits.micros c.within.ensures c.if-within.taken)
+    simp (read c.ranges.micros, answered price_fit c.ranges.micros c.within.ensures c.if-within.true)
 
 pub returns-else-within : goal.returns-else-within
 unfolding price_fit only_if
 returns-else-within c =
-    let s = c in
-    simp (answered price_fit c.fits.micros c.within.ensures c.if-within.left)
+    simp (answered price_fit c.ranges.micros c.within.ensures c.if-within.false)

@@ -9,11 +9,9 @@ use Rattle.ranges.proofs.limits.Threshold.checked_lower.Goals as goal
 pub returns-then-within : goal.returns-then-within
 unfolding lower_fit only_if
 returns-then-within c =
-    let s = c in
-    simp (read c.fits.kwh, answered lower_fit c.fits.kwh c.within.ensures c.if-within.taken)
+    simp (read c.ranges.kwh, answered lower_fit c.ranges.kwh c.within.ensures c.if-within.true)
 
 pub returns-else-within : goal.returns-else-within
 unfolding lower_fit only_if
 returns-else-within c =
-    let s = c in
-    simp (answered lower_fit c.fits.kwh c.within.ensures c.if-within.left)
+    simp (answered lower_fit c.ranges.kwh c.within.ensures c.if-within.false)

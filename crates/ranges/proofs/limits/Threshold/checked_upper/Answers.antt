@@ -9,11 +9,9 @@ use Rattle.ranges.proofs.limits.Threshold.checked_upper.Goals as goal
 pub returns-then-within : goal.returns-then-within
 unfolding upper_fit only_if
 returns-then-within c =
-    let s = c in
-    simp (read c.fits.kwh, answered upper_fit c.fits.kwh c.within.ensures c.if-within.taken)
+    simp (read c.ranges.kwh, answered upper_fit c.ranges.kwh c.within.ensures c.if-within.true)
 
 pub returns-else-within : goal.returns-else-within
 unfolding upper_fit only_if
 returns-else-within c =
-    let s = c in
-    simp (answered upper_fit c.fits.kwh c.within.ensures c.if-within.left)
+    simp (answered upper_fit c.ranges.kwh c.within.ensures c.if-within.false)
