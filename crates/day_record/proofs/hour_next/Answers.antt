@@ -1,0 +1,41 @@
+-- The hours done are few, so that one more fits. Assumes nothing.
+use mathlib.Core.Path.{ap, ◌∙◌}
+use mathlib.Core.Bool.{◌&&◌}
+use Prim.Native.Nat.{◌≤◌}
+use lib.IntN.{ℤ, pos, nat_abs, ◌+ℤ◌}
+use lib.Signed.{le_z}
+use Rattle.integers.specs.Ranges.{equal}
+use Rattle.rules.specs.Limits.{length_most}
+use Rattle.rules.specs.Days.{hours_done}
+use Rattle.rules.specs.Causes.{hour_next}
+use Rattle.day_record.proofs.Records.{hours_few}
+use Rattle.integers.proofs.Machine.{read, back, fitting}
+use borrow.Author.Rules.{rules}
+use mir.Syntax.{w64}
+use mir.Val.{SFits, to_z, of_z}
+use Rattle.day_record.proofs.hour_next.Goals as goal
+
+pub overflow_add-next : goal.overflow_add-next
+overflow_add-next c =
+    let few : nat_abs c.hours_done-next.result ≤ length_most = rw c.hours_done-next.ensures (hours_few _ _ c.requires) in
+    omega fitting
+
+pub returns : goal.returns
+unfolding hour_next
+returns c =
+    let n = c.hours_of_day-length in
+    let few : nat_abs c.hours_done-next.result ≤ length_most = rw c.hours_done-next.ensures (hours_few _ _ c.requires) in
+    let next_fits : SFits w64 (to_z w64 (of_z w64 c.hours_done-next.result) +ℤ pos 1) = omega fitting in
+    let d = c.args.day in
+    let k = c.args.terms in
+    rw (
+      c.both.ensures,
+      c.at_most.ensures,
+      c.equal.ensures,
+      read next_fits,
+      back c.hours_done-next.result c.hours_done-next.type_inv,
+      c.hours_done-next.ensures,
+      back k.zone (search rules),
+      back k.hour (search rules),
+    )
+    (ap (λ (len : ℤ). equal k.hour (hours_done k.zone d +ℤ pos 1) && le_z k.hour len) (back n.result n.type_inv ∙ n.ensures))
