@@ -1,5 +1,5 @@
 -- A file that is read obeys the rules, and one that obeys them is read. Assumes nothing.
-use mathlib.Core.Path.{◌≡◌, refl, sym, ap, ◌∙◌}
+use mathlib.Core.Path.{◌≡◌, refl, sym, ap, ap₂, ◌∙◌}
 use mathlib.Core.Bool.{Bool, true, false, cond}
 use mathlib.Core.List.{List, [], ◌∷◌, map}
 use Prim.Native.Nat.{ℕ, suc, ◌+◌, ◌-◌, ◌≤◌}
@@ -151,7 +151,7 @@ pub body_turns : (h z : ℕ) (l : List ℕ) (ls : List (List ℕ)) (r : Row) →
 body_turns h z l ls r e p q = ap (λ (w : Line). under_first w (l ∷ ls)) e ∙ under r.hour r.zone p q
   where
     under : (x y : ℕ) → x ≡ h → y ≡ z → in_turn x y (l ∷ ls) 0 ≡ in_turn h z (l ∷ ls) 0
-    under x y p q = rw (p, q)
+    under x y p q = ap₂ (λ (x y : ℕ). in_turn x y (l ∷ ls) 0) p q
 
 -- at least one line, and all stand in their turn
 record Body (ls : List (List ℕ)) (h z : ℕ) (rows : List Row) : Type 0 where
