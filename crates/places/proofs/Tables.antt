@@ -1,6 +1,6 @@
 -- Cause 7 by its live places: the same test, with each place looked at once; and zeros found by `or`. Assumes nothing.
 use mathlib.Core.Path.{◌≡◌, refl, sym, ap, ap₂, ◌∙◌}
-use mathlib.Core.Bool.{Bool, true, false, not, cond, ◌&&◌, ◌||◌, and_true, and-false, and_self}
+use mathlib.Core.Bool.{Bool, true, false, not, cond, ◌&&◌, ◌||◌, and-true, and-false, and_self}
 use mathlib.Core.List.{List, [], ◌∷◌}
 use Prim.Native.Nat.{ℕ, zero, suc, zero-le, ◌+◌, ◌-◌, ◌≤◌, ◌<◌}
 use native.Mathlib.Omega.{arith}
@@ -82,7 +82,7 @@ module _ (d : Day) (t : List ℤ) where
           → (every is_zero (drop (users d) (part zone t)) && (not b || every is_zero (part zone t)))
           ≡ every is_zero (drop (cond b 0 (users d)) (part zone t))
       go true = every_rest is_zero (users d) (part zone t)
-      go false = and_true _
+      go false = and-true _
 
   parts_fit : length t ≡ 256 → positions_fit t ≡ (every position_fit (part (pos 0) t) && every position_fit (part (pos 1) t))
   unfolding positions_fit part first_place

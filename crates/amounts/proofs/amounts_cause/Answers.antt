@@ -16,11 +16,11 @@ use Rattle.amounts.proofs.amounts_cause.Goals as goal
 
 pub returns-then-not-amounts_fit : goal.returns-then-not-amounts_fit
 unfolding amounts_cause unless ◌then◌
-returns-then-not-amounts_fit c = rw (sym c.amounts_fit.ensures ∙ not-true _ c.if-not-amounts_fit.true)
+returns-then-not-amounts_fit c = rw (sym c.amounts_fit.ensures ∙ c.if-not-amounts_fit.true)
 
 pub sum_of-pooled-requires : goal.sum_of-pooled-requires
 sum_of-pooled-requires c = let a =
-    let in_range : let a = c.args in all_fit a.entry.now a.exit.now a.title.now a.pooling.now ≡ true = sym c.amounts_fit.ensures ∙ not-false _ c.if-not-amounts_fit.false
+    let in_range : let a = c.args in all_fit a.entry.now a.exit.now a.title.now a.pooling.now ≡ true = sym c.amounts_fit.ensures ∙ c.if-not-amounts_fit.false
      in
     let lent : let a = c.args in Amounts a.part.now a.entry.now a.exit.now a.title.now a.pooling.now = record { lent = c.requires; fit = in_range }
      in
@@ -29,16 +29,16 @@ sum_of-pooled-requires c = let a =
 pub returns-then-not-is_zero : goal.returns-then-not-is_zero
 unfolding amounts_cause unless ◌then◌
 returns-then-not-is_zero c =
-    let in_range : let a = c.args in all_fit a.entry.now a.exit.now a.title.now a.pooling.now ≡ true = sym c.amounts_fit.ensures ∙ not-false _ c.if-not-amounts_fit.false
+    let in_range : let a = c.args in all_fit a.entry.now a.exit.now a.title.now a.pooling.now ≡ true = sym c.amounts_fit.ensures ∙ c.if-not-amounts_fit.false
      in
     let pooled : c.is_zero.result ≡ is_zero (sumℤ c.args.pooling.now) = c.is_zero.ensures ∙ ap is_zero (back _ c.sum_of-pooled.type_inv ∙ c.sum_of-pooled.ensures)
      in
-    rw (in_range, sym pooled ∙ not-true _ c.if-not-is_zero.true)
+    rw (in_range, sym pooled ∙ c.if-not-is_zero.true)
 
 pub returns-then-not-befores_fit : goal.returns-then-not-befores_fit
 unfolding amounts_cause unless ◌then◌
 returns-then-not-befores_fit c =
-    let in_range : let a = c.args in all_fit a.entry.now a.exit.now a.title.now a.pooling.now ≡ true = sym c.amounts_fit.ensures ∙ not-false _ c.if-not-amounts_fit.false
+    let in_range : let a = c.args in all_fit a.entry.now a.exit.now a.title.now a.pooling.now ≡ true = sym c.amounts_fit.ensures ∙ c.if-not-amounts_fit.false
      in
     let pooled : c.is_zero.result ≡ is_zero (sumℤ c.args.pooling.now) = c.is_zero.ensures ∙ ap is_zero (back _ c.sum_of-pooled.type_inv ∙ c.sum_of-pooled.ensures)
      in
@@ -48,14 +48,14 @@ returns-then-not-befores_fit c =
      in
     rw (
       in_range,
-      sym pooled ∙ not-false _ c.if-not-is_zero.false,
-      standing _ (not-true _ c.if-not-befores_fit.true),
+      sym pooled ∙ c.if-not-is_zero.false,
+      standing _ (c.if-not-befores_fit.true),
     )
 
 pub returns : goal.returns
 unfolding amounts_cause unless ◌then◌
 returns c =
-    let in_range : let a = c.args in all_fit a.entry.now a.exit.now a.title.now a.pooling.now ≡ true = sym c.amounts_fit.ensures ∙ not-false _ c.if-not-amounts_fit.false
+    let in_range : let a = c.args in all_fit a.entry.now a.exit.now a.title.now a.pooling.now ≡ true = sym c.amounts_fit.ensures ∙ c.if-not-amounts_fit.false
      in
     let pooled : c.is_zero.result ≡ is_zero (sumℤ c.args.pooling.now) = c.is_zero.ensures ∙ ap is_zero (back _ c.sum_of-pooled.type_inv ∙ c.sum_of-pooled.ensures)
      in
@@ -65,6 +65,6 @@ returns c =
      in
     rw (
       in_range,
-      sym pooled ∙ not-false _ c.if-not-is_zero.false,
-      standing _ (not-false _ c.if-not-befores_fit.false),
+      sym pooled ∙ c.if-not-is_zero.false,
+      standing _ (c.if-not-befores_fit.false),
     )

@@ -10,31 +10,31 @@ use Rattle.amounts.proofs.amounts_fit.Goals as goal
 
 pub returns-then-not-all_fit : goal.returns-then-not-all_fit
 unfolding all_fit
-returns-then-not-all_fit c = rw (sym c.all_fit.ensures ∙ not-true _ c.if-not-all_fit.true)
+returns-then-not-all_fit c = rw (sym c.all_fit.ensures ∙ c.if-not-all_fit.true)
 
 pub returns-then-not-all_fit-2 : goal.returns-then-not-all_fit-2
 unfolding all_fit
 returns-then-not-all_fit-2 c =
-    let entries : every entry_fit c.args.entry.now ≡ true = sym c.all_fit.ensures ∙ not-false _ c.if-not-all_fit.false
+    let entries : every entry_fit c.args.entry.now ≡ true = sym c.all_fit.ensures ∙ c.if-not-all_fit.false
      in
-    rw (entries, sym c.all_fit-2.ensures ∙ not-true _ c.if-not-all_fit-2.true)
+    rw (entries, sym c.all_fit-2.ensures ∙ c.if-not-all_fit-2.true)
 
 pub returns-then-not-all_fit-3 : goal.returns-then-not-all_fit-3
 unfolding all_fit
 returns-then-not-all_fit-3 c =
-    let entries : every entry_fit c.args.entry.now ≡ true = sym c.all_fit.ensures ∙ not-false _ c.if-not-all_fit.false
+    let entries : every entry_fit c.args.entry.now ≡ true = sym c.all_fit.ensures ∙ c.if-not-all_fit.false
      in
-    let exits : every exit_fit c.args.exit.now ≡ true = sym c.all_fit-2.ensures ∙ not-false _ c.if-not-all_fit-2.false
+    let exits : every exit_fit c.args.exit.now ≡ true = sym c.all_fit-2.ensures ∙ c.if-not-all_fit-2.false
      in
-    rw (entries, exits, sym c.all_fit-3.ensures ∙ not-true _ c.if-not-all_fit-3.true)
+    rw (entries, exits, sym c.all_fit-3.ensures ∙ c.if-not-all_fit-3.true)
 
 pub returns : goal.returns
 unfolding all_fit
 returns c =
-    let entries : every entry_fit c.args.entry.now ≡ true = sym c.all_fit.ensures ∙ not-false _ c.if-not-all_fit.false
+    let entries : every entry_fit c.args.entry.now ≡ true = sym c.all_fit.ensures ∙ c.if-not-all_fit.false
      in
-    let exits : every exit_fit c.args.exit.now ≡ true = sym c.all_fit-2.ensures ∙ not-false _ c.if-not-all_fit-2.false
+    let exits : every exit_fit c.args.exit.now ≡ true = sym c.all_fit-2.ensures ∙ c.if-not-all_fit-2.false
      in
-    let titles : every title_fit c.args.title.now ≡ true = sym c.all_fit-3.ensures ∙ not-false _ c.if-not-all_fit-3.false
+    let titles : every title_fit c.args.title.now ≡ true = sym c.all_fit-3.ensures ∙ c.if-not-all_fit-3.false
      in
     rw (entries, exits, titles) c.all_fit-4.ensures

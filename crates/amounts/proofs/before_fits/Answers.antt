@@ -8,7 +8,7 @@ use Rattle.amounts.proofs.before_fits.Goals as goal
 
 pub returns : goal.returns
 returns c =
-    let b = c.Before-of in
+    let b = c.before_of in
     let f = c.ranges in
-    tested position_fit _ (record { sfits = b.ok }) c.fits2.ensures c.checked.ensures refl
+    tested position_fit _ (record { sfits = b.type_inv }) c.fits.ensures c.checked.ensures refl
     ∙ ap position_fit (rw (read f.position, read f.entry, read f.exit, read f.title, read f.pooling) at b.ensures)

@@ -25,33 +25,25 @@ before_fits-before-requires c =
     let f = few c.requires in
     (read_elem f.position i, read_elem f.entry i, read_elem f.exit i, read_elem f.title i, read_elem f.pooling i)
 
--- the test of the user at i
-tested : (c : goal.After-before_fits-before invariant-loop decreases-loop)
-    → let l = c.loop-i in
-    let a = c.args in
-    c.before_fits-before.result
-    ≡ position_fit (get_or (befores a.part.now a.entry.now a.exit.now a.title.now a.pooling.now) l.i (pos 0))
-unfolding before_at
-tested c =
-    let l = c.loop-i in
-    let a = c.args in
-    rw (
-      back (get_or a.part.now l.i (pos 0)) (search rules),
-      back (get_or a.entry.now l.i (pos 0)) (search rules),
-      back (get_or a.exit.now l.i (pos 0)) (search rules),
-      back (get_or a.title.now l.i (pos 0)) (search rules),
-      back (get_or a.pooling.now l.i (pos 0)) (search rules),
-    ) at c.before_fits-before.ensures
-    ∙ ap position_fit (sym (befores_at a.part.now a.entry.now a.exit.now a.title.now a.pooling.now l.i (omega arith)))
-
 pub loop-i-preserved : goal.loop-i-preserved
+unfolding before_at
 loop-i-preserved c =
     let l = c.loop-i in
     let a = c.args in
+    -- the test of the user at i
+    let tested : c.before_fits-before.result ≡ position_fit (get_or (befores a.part.now a.entry.now a.exit.now a.title.now a.pooling.now) l.i (pos 0)) =
+        rw (
+          back (get_or a.part.now l.i (pos 0)) (search rules),
+          back (get_or a.entry.now l.i (pos 0)) (search rules),
+          back (get_or a.exit.now l.i (pos 0)) (search rules),
+          back (get_or a.title.now l.i (pos 0)) (search rules),
+          back (get_or a.pooling.now l.i (pos 0)) (search rules),
+        ) at c.before_fits-before.ensures
+        ∙ ap position_fit (sym (befores_at a.part.now a.entry.now a.exit.now a.title.now a.pooling.now l.i (omega arith))) in
     let ps = befores a.part.now a.entry.now a.exit.now a.title.now a.pooling.now in
     let long = length-befores a.part.now a.entry.now a.exit.now a.title.now a.pooling.now in (
       omega arith,
-      c.both-fit.ensures ∙ ap₂ (λ (x y : Bool). x && y) l.invariant.1 (tested c)
+      c.both-fit.ensures ∙ ap₂ (λ (x y : Bool). x && y) l.invariant.1 tested
           ∙ sym (every-step position_fit (pos 0) ps l.i (omega (arith, long))),
     )
 

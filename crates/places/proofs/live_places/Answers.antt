@@ -26,4 +26,4 @@ returns-else-either c =
         let none = rw (back h.result h.type_inv, h.ensures) at c.is_zero-none.ensures in
         simp (c.is_closed.ensures, none, read c.ranges.zone) at c.either.ensures
      in
-    rw (sym idle ∙ c.if-either.false) (rw (back _ (search rules)) at c.natural.ensures)
+    rw (sym idle ∙ c.if-either.false) (rw (back c.args.day.users (search rules)) at c.natural.ensures)

@@ -10,23 +10,20 @@ use Rattle.places.proofs.Tables.{live_le, table_parts}
 use borrow.Author.Rules.{rules}
 use Rattle.places.proofs.table_fit.Goals as goal
 
--- the H zone's part
-part_h : (c : goal.After-part_fit)
-    → let a = c.args in
-    c.part_fit.result ≡ part_fit (live_places (pos 0) a.day) (part (pos 0) a.table.now)
-unfolding part first_place
-part_h c = rw c.live_places-h.ensures at c.part_fit.ensures
-
 pub part_fit-requires : goal.part_fit-requires
 part_fit-requires c =
     simp length-take
     (omega (arith, c.live_places-h.ensures, live_le (pos 0) c.args.day, c.requires.few, c.requires.long))
 
 pub returns-then-not-part_fit : goal.returns-then-not-part_fit
+unfolding part first_place
 returns-then-not-part_fit c =
+    let part_h : let a = c.args in
+        c.part_fit.result ≡ part_fit (live_places (pos 0) a.day) (part (pos 0) a.table.now) = rw c.live_places-h.ensures at c.part_fit.ensures
+     in
     rw (
       ← table_parts c.args.day c.args.table.now c.requires.long,
-      sym (part_h c) ∙ not-true _ c.if-not-part_fit.true,
+      sym part_h ∙ c.if-not-part_fit.true,
     )
 
 pub part_fit-requires-2 : goal.part_fit-requires-2
@@ -35,10 +32,13 @@ part_fit-requires-2 c =
     (omega (arith, c.live_places-l.ensures, live_le (pos 1) c.args.day, c.requires.few, c.requires.long))
 
 pub returns : goal.returns
-unfolding part first_place
+unfolding part first_place 
 returns c =
+    let part_h : let a = c.args in
+        c.part_fit.result ≡ part_fit (live_places (pos 0) a.day) (part (pos 0) a.table.now) = rw c.live_places-h.ensures at c.part_fit.ensures
+     in
     rw (
       ← table_parts c.args.day c.args.table.now c.requires.long,
-      sym (part_h c) ∙ not-false _ c.if-not-part_fit.false,
+      sym part_h ∙ c.if-not-part_fit.false,
     )
     (rw c.live_places-l.ensures at c.part_fit-2.ensures)

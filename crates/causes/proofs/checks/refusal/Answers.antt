@@ -1,0 +1,11 @@
+-- By the test. Assumes nothing.
+use Rattle.rules.specs.Refusals.{unless}
+use Rattle.causes.proofs.checks.refusal.Goals as goal
+
+pub returns-then-fits : goal.returns-then-fits
+unfolding unless
+returns-then-fits c = rw c.if-fits.true
+
+pub returns-else-fits : goal.returns-else-fits
+unfolding unless
+returns-else-fits c = rw c.if-fits.false
