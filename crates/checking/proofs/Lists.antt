@@ -1,6 +1,6 @@
 -- Two lists compared place by place. Assumes nothing.
 use mathlib.Core.Path.{◌≡◌, refl, sym, ap, ◌∙◌}
-use mathlib.Core.Bool.{Bool, true, false, ◌&&◌, and_assoc, and_true, and-false}
+use mathlib.Core.Bool.{Bool, false, ◌&&◌, and_assoc, and-true, and-false}
 use mathlib.Core.List.{List, [], ◌∷◌}
 use Prim.Native.Nat.{ℕ, zero, suc, ◌+◌, ◌<◌}
 use native.Mathlib.Nat.{not-suc-le-zero, le_of_suc-le-suc}
@@ -28,7 +28,7 @@ same_step xs ys i h k = rw add-one (go xs ys i h k)
         → same_list (take (suc i) xs) (take (suc i) ys) ≡ (same_list (take i xs) (take i ys) && equal (get_or xs i (pos 0)) (get_or ys i (pos 0)))
     go [] ys i h k = absurd (not-suc-le-zero h)
     go (x ∷ xs) [] i h k = absurd (not-suc-le-zero k)
-    go (x ∷ xs) (y ∷ ys) zero h k = and_true (equal x y)
+    go (x ∷ xs) (y ∷ ys) zero h k = and-true (equal x y)
     go (x ∷ xs) (y ∷ ys) (suc i) h k =
         ap (λ (b : Bool). equal x y && b) (go xs ys i (le_of_suc-le-suc h) (le_of_suc-le-suc k))
         ∙ sym (and_assoc (equal x y) (same_list (take i xs) (take i ys)) (equal (get_or xs i (pos 0)) (get_or ys i (pos 0))))

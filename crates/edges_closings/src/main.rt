@@ -5,9 +5,9 @@
 
 use checking::{all_are, at, lent, put};
 use integers::natural;
-use libc::STDOUT_FILENO;
 use ranges::limits::{Position, Price};
 use rules::{ClosingAnswer, ClosingDone, ClosingTerms, Day, Refusal};
+use std::io;
 
 const POSITION: i64 = Position::MOST;
 
@@ -236,7 +236,7 @@ fn say_answer(
     }
 }
 
-fn run(row: [i64; 14]) {
+fn run(rt: &impl Print, row: [i64; 14]) -> io::Result<()> {
     let mut table = [0i64; 257];
     let mut quantity = [LENT_QUANTITY; 129];
     let mut money = [LENT_MONEY; 129];
@@ -249,13 +249,14 @@ fn run(row: [i64; 14]) {
         &mut line, end, answer, &row, &before, &table, &quantity, &money,
     );
     let end = printing::say_byte(&mut line, end, b'\n');
-    io::write_all(STDOUT_FILENO, printing::whole(&line, end));
+    rt.write_all(printing::whole(&line, end))
 }
 
-fn main() {
+fn main(rt: HostRuntime) -> io::Result<()> {
     let mut i: usize = 0;
     while i < 59 {
-        run(ROWS[i]);
+        run(&rt, ROWS[i])?;
         i += 1;
     }
+    Ok(())
 }

@@ -7,7 +7,7 @@
 use allocation_file::{FileAnswer, FileRead};
 use checking::{all_are, lent, rest};
 use integers::{both, magnitude, natural};
-use libc::STDOUT_FILENO;
+use std::io;
 
 // The largest number of nine digits, and the least.
 const NINES: i64 = 9 * 111_111_111;
@@ -179,7 +179,13 @@ fn say_answer(
 }
 
 // The file is read into lists of so many places, and the answer is said after the case, which stands in the line up to `at`.
-fn read(line: &mut [u8], at: usize, file: &[u8], places: &[i64]) {
+fn read(
+    rt: &impl Print,
+    line: &mut [u8],
+    at: usize,
+    file: &[u8],
+    places: &[i64],
+) -> io::Result<()> {
     let mut entries = [LENT_ENTRY; 129];
     let mut exits = [LENT_EXIT; 129];
     let mut titles = [LENT_TITLE; 129];
@@ -193,10 +199,10 @@ fn read(line: &mut [u8], at: usize, file: &[u8], places: &[i64]) {
     );
     let end = say_answer(line, at, answer, &entries, &exits, &titles, &poolings);
     let end = printing::say_byte(line, end, b'\n');
-    io::write_all(STDOUT_FILENO, printing::whole(line, end));
+    rt.write_all(printing::whole(line, end))
 }
 
-fn run(row: [i64; 12]) {
+fn run(rt: &impl Print, row: [i64; 12]) -> io::Result<()> {
     let mut amounts = [0u8; 64];
     let end = printing::say_row(&mut amounts, 0, b",|,|,|,|", rest(&row, 4));
     let mut room = [0u8; 8192];
@@ -210,7 +216,13 @@ fn run(row: [i64; 12]) {
     );
     let mut line = [0u8; 512];
     let said = printing::say_row(&mut line, 0, &NAMES, &row);
-    read(&mut line, said, printing::whole(&room, end), rest(&row, 8));
+    read(
+        rt,
+        &mut line,
+        said,
+        printing::whole(&room, end),
+        rest(&row, 8),
+    )
 }
 
 // ---- amounts as they are spelled, in kWh and in MWh: the same for all four amounts of every line
@@ -232,7 +244,7 @@ fn put_amounts(amounts: &mut [u8], which: usize) -> usize {
     put_amount(amounts, end, which)
 }
 
-fn run_spelled(lines: i64, which: usize) {
+fn run_spelled(rt: &impl Print, lines: i64, which: usize) -> io::Result<()> {
     let mut amounts = [0u8; 64];
     let end = put_amounts(&mut amounts, which);
     let mut room = [0u8; 8192];
@@ -241,33 +253,36 @@ fn run_spelled(lines: i64, which: usize) {
     let said = printing::say_row(&mut line, 0, b"file, lines |, each amount ", &[lines]);
     let said = printing::say_word(&mut line, said, &SPELLED, which);
     read(
+        rt,
         &mut line,
         said,
         printing::whole(&room, end),
         &[128, 128, 128, 128],
-    );
+    )
 }
 
-fn run_rows() {
+fn run_rows(rt: &impl Print) -> io::Result<()> {
     let mut i: usize = 0;
     while i < 15 {
-        run(ROWS[i]);
+        run(rt, ROWS[i])?;
         i += 1;
     }
+    Ok(())
 }
 
 // One line of each spelling.
-fn run_spellings() {
+fn run_spellings(rt: &impl Print) -> io::Result<()> {
     let mut i: usize = 0;
     while i < SPELLINGS {
-        run_spelled(1, i);
+        run_spelled(rt, 1, i)?;
         i += 1;
     }
+    Ok(())
 }
 
-fn main() {
-    run_rows();
-    run_spellings();
+fn main(rt: HostRuntime) -> io::Result<()> {
+    run_rows(&rt)?;
+    run_spellings(&rt)?;
     // the longest spelling, in as many lines as there may be
-    run_spelled(128, 4);
+    run_spelled(&rt, 128, 4)
 }

@@ -5,8 +5,8 @@
 
 use checking::{all_are, all_scratch, at, first, lent, part, put, rest, sums};
 use integers::natural;
-use libc::STDOUT_FILENO;
 use rules::{Day, HourAnswer, HourDone, HourTerms, Marks, Outcome, Refusal, Side};
+use std::io;
 
 mod rows;
 
@@ -275,7 +275,7 @@ fn run(line: &mut [u8], at: usize, sheet: &[i64], table: &mut [i64]) -> usize {
     say_answer(line, at, answer, sheet, table, &quantity, &money, &scratch)
 }
 
-fn hour(row: [i64; 8]) {
+fn hour(rt: &impl Print, row: [i64; 8]) -> io::Result<()> {
     let mut sheet = [0i64; rows::SHEET];
     fill(&mut sheet, &row);
     let mut other = sheet;
@@ -288,28 +288,30 @@ fn hour(row: [i64; 8]) {
         lent(&mut other, natural(rows::TABLE), 257),
     );
     let end = printing::say_byte(&mut line, end, b'\n');
-    io::write_all(STDOUT_FILENO, printing::whole(&line, end));
+    rt.write_all(printing::whole(&line, end))
 }
 
 // The usual call with one change, by each of the numbers.
-fn each(kind: i64, numbers: &[i64]) {
+fn each(rt: &impl Print, kind: i64, numbers: &[i64]) -> io::Result<()> {
     let mut k: usize = 0;
     while k < numbers.len() {
-        hour([kind, numbers[k], 0, 0, 0, 0, 0, 0]);
+        hour(rt, [kind, numbers[k], 0, 0, 0, 0, 0, 0])?;
         k += 1;
     }
+    Ok(())
 }
 
-fn alone(row: [i64; 7]) {
-    each(at(&row, 0), first(rest(&row, 2), natural(at(&row, 1))));
+fn alone(rt: &impl Print, row: [i64; 7]) -> io::Result<()> {
+    each(rt, at(&row, 0), first(rest(&row, 2), natural(at(&row, 1))))
 }
 
-fn hours_alone() {
+fn hours_alone(rt: &impl Print) -> io::Result<()> {
     let mut i: usize = 0;
     while i < 43 {
-        alone(rows::ALONE[i]);
+        alone(rt, rows::ALONE[i])?;
         i += 1;
     }
+    Ok(())
 }
 
 fn together(i: usize) -> [i64; 8] {
@@ -320,24 +322,26 @@ fn together(i: usize) -> [i64; 8] {
     }
 }
 
-fn hours_together() {
+fn hours_together(rt: &impl Print) -> io::Result<()> {
     let mut i: usize = 0;
     while i < 67 {
-        hour(together(i));
+        hour(rt, together(i))?;
         i += 1;
     }
+    Ok(())
 }
 
-fn hours_by_length() {
+fn hours_by_length(rt: &impl Print) -> io::Result<()> {
     let mut i: usize = 0;
     while i < 38 {
-        hour(rows::LENGTHS[i]);
+        hour(rt, rows::LENGTHS[i])?;
         i += 1;
     }
+    Ok(())
 }
 
-fn main() {
-    hours_alone();
-    hours_together();
-    hours_by_length();
+fn main(rt: HostRuntime) -> io::Result<()> {
+    hours_alone(&rt)?;
+    hours_together(&rt)?;
+    hours_by_length(&rt)
 }

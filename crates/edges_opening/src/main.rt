@@ -5,8 +5,8 @@
 
 use checking::{all_are, first, lent};
 use integers::natural;
-use libc::STDOUT_FILENO;
 use rules::{OpenAnswer, ThresholdsAnswer};
+use std::io;
 
 const USERS: [i64; 9] = [0, 1, 2, 127, 128, 129, -1, i64::MAX, i64::MIN];
 
@@ -54,7 +54,7 @@ fn say_opened(line: &mut [u8], at: usize, answer: OpenAnswer, table: &[i64]) -> 
     }
 }
 
-fn open(users: i64, length: i64, places: i64) {
+fn open(rt: &impl Print, users: i64, length: i64, places: i64) -> io::Result<()> {
     let mut table = [LENT; 257];
     let answer = gas_day::open(users, length, lent(&mut table, 0, natural(places)));
     let row = [users, length, places];
@@ -62,15 +62,16 @@ fn open(users: i64, length: i64, places: i64) {
     let end = printing::say_row(&mut line, 0, b"open | users, length |, table of |", &row);
     let end = say_opened(&mut line, end, answer, &table);
     let end = printing::say_byte(&mut line, end, b'\n');
-    io::write_all(STDOUT_FILENO, printing::whole(&line, end));
+    rt.write_all(printing::whole(&line, end))
 }
 
-fn openings() {
+fn openings(rt: &impl Print) -> io::Result<()> {
     let mut i: usize = 0;
     while i < 288 {
-        open(USERS[i % 9], LENGTHS[i / 36], SIZES[i / 9 % 4]);
+        open(rt, USERS[i % 9], LENGTHS[i / 36], SIZES[i / 9 % 4])?;
         i += 1;
     }
+    Ok(())
 }
 
 fn say_thresholds(line: &mut [u8], at: usize, answer: ThresholdsAnswer) -> usize {
@@ -83,25 +84,26 @@ fn say_thresholds(line: &mut [u8], at: usize, answer: ThresholdsAnswer) -> usize
     }
 }
 
-fn default_thresholds(month: i64, zone: i64) {
+fn default_thresholds(rt: &impl Print, month: i64, zone: i64) -> io::Result<()> {
     let answer = gas_day::default_thresholds(month, zone);
     let row = [month, zone];
     let mut line = [0u8; 512];
     let end = printing::say_row(&mut line, 0, b"thresholds of month |, zone |", &row);
     let end = say_thresholds(&mut line, end, answer);
     let end = printing::say_byte(&mut line, end, b'\n');
-    io::write_all(STDOUT_FILENO, printing::whole(&line, end));
+    rt.write_all(printing::whole(&line, end))
 }
 
-fn thresholds() {
+fn thresholds(rt: &impl Print) -> io::Result<()> {
     let mut i: usize = 0;
     while i < 68 {
-        default_thresholds(MONTHS[i % 17], ZONES[i / 17]);
+        default_thresholds(rt, MONTHS[i % 17], ZONES[i / 17])?;
         i += 1;
     }
+    Ok(())
 }
 
-fn main() {
-    openings();
-    thresholds();
+fn main(rt: HostRuntime) -> io::Result<()> {
+    openings(&rt)?;
+    thresholds(&rt)
 }

@@ -10,7 +10,7 @@ use allocation_file::FileAnswer;
 use allocation_writer::WriteAnswer;
 use checking::{all_are, at, first, put, rest, same_list, sums};
 use integers::{both, natural};
-use libc::STDOUT_FILENO;
+use std::io;
 
 mod rows;
 
@@ -188,28 +188,36 @@ fn write(
     )
 }
 
-fn print(row: &[i64], entry: &[i64], exit: &[i64], title: &[i64], pooling: &[i64]) {
+fn print(
+    rt: &impl Print,
+    row: &[i64],
+    entry: &[i64],
+    exit: &[i64],
+    title: &[i64],
+    pooling: &[i64],
+) -> io::Result<()> {
     let mut room = [LENT_BYTE; 8192];
     let answer = write(row, entry, exit, title, pooling, &mut room);
     let mut line = [0u8; 512];
     let end = printing::say_row(&mut line, 0, &rows::NAMES, row);
     let end = say_answer(&mut line, end, answer, &room, entry, exit, title, pooling);
     let end = printing::say_byte(&mut line, end, b'\n');
-    io::write_all(STDOUT_FILENO, printing::whole(&line, end));
+    rt.write_all(printing::whole(&line, end))
 }
 
-fn run(row: &[i64]) {
+fn run(rt: &impl Print, row: &[i64]) -> io::Result<()> {
     let mut entry = [0i64; 130];
     let mut exit = [0i64; 130];
     let mut title = [0i64; 130];
     let mut pooling = [0i64; 130];
     print(
+        rt,
         row,
         amounts(&mut entry, row, 3),
         amounts(&mut exit, row, 4),
         amounts(&mut title, row, 5),
         amounts(&mut pooling, row, 6),
-    );
+    )
 }
 
 // The usual row with one change.
@@ -227,10 +235,11 @@ fn case(i: usize) -> [i64; 12] {
     }
 }
 
-fn main() {
+fn main(rt: HostRuntime) -> io::Result<()> {
     let mut i: usize = 0;
     while i < 119 {
-        run(&case(i));
+        run(&rt, &case(i))?;
         i += 1;
     }
+    Ok(())
 }

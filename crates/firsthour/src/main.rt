@@ -5,7 +5,7 @@
 
 ghost use Rattle.std.specs.Prelude.{◌≤◌, ◌<◌, length};
 ghost use Rattle.allocation_file.specs.File.{file_of};
-ghost use Rattle.io.specs.Counts.{IsPrefixLen};
+ghost use Rattle.std.specs.Counts.{IsPrefixLen};
 ghost use Rattle.text.specs.Puts.{Put};
 ghost use Rattle.hour_text.specs.Lent.{text_most};
 ghost use Rattle.firsthour.specs.Examples.{ExamplesPrinted};
@@ -13,8 +13,9 @@ ghost use Rattle.firsthour.specs.Printed.{input_most, of_file, printed};
 
 use allocation_file::{FileAnswer, read_hour_file};
 use hour_text::amounts_text;
-use libc::{STDIN_FILENO, STDOUT_FILENO};
 use report::write_refused;
+use std::io;
+use std::io::Read;
 
 // The bytes of the longest input that is read.
 const INPUT_MOST: usize = 65_536;
@@ -59,11 +60,19 @@ fn input_text(out: &mut [u8], input: &[u8]) -> usize
 }
 
 // Reads the input into `room`, which has a byte more than the longest file, so that a longer input is seen. A read that fails counts as the end of the input.
-fn read_input(room: &mut [u8]) -> usize
+fn read_input(input: &mut impl Read, room: &mut [u8]) -> usize
     requires { input_most < length room.old }
     ensures { IsPrefixLen result room.new }
 {
-    io::read_full(STDIN_FILENO, room)
+    let mut end: usize = 0;
+    while end < room.len() {
+        let n = input.read(&mut room[end..]).unwrap_or(0);
+        if n == 0 {
+            return end;
+        }
+        end += n;
+    }
+    end
 }
 
 // Document 01's case A from its input to its output, and inputs that are refused: what the definitions print. Nothing calls this; it asks for the proof.
@@ -71,10 +80,10 @@ fn examples_are_printed()
     ensures { ExamplesPrinted }
 {}
 
-fn main() {
+fn main(rt: HostRuntime) -> io::Result<()> {
     let mut input = [0u8; INPUT_MOST + 1];
-    let length = read_input(&mut input);
+    let length = read_input(&mut rt.stdin(), &mut input);
     let mut out = [0u8; TEXT_MOST];
     let end = input_text(&mut out, &input[..length]);
-    io::write_all(STDOUT_FILENO, &out[..end]);
+    rt.write_all(&out[..end])
 }

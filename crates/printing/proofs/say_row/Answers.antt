@@ -1,0 +1,13 @@
+-- With each byte, what is left of the form is one byte shorter. Assumes nothing.
+use Rattle.printing.specs.Words.{filled}
+use Rattle.printing.proofs.Lines.{spelling_next, spelling_end}
+use Rattle.printing.proofs.say_row.Goals as goal
+
+pub loop-i-preserved : goal.loop-i-preserved
+loop-i-preserved c =
+    spelling_next c.loop-i.invariant c.loop-i-test.true
+    c.say_number_or_byte-end.auto.line c.say_number_or_byte-end.ensures c.after-seen.ensures
+
+pub returns : goal.returns
+unfolding filled
+returns c = spelling_end c.loop-i.invariant c.loop-i-test.false
