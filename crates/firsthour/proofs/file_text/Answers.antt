@@ -1,0 +1,40 @@
+-- By the answer of the reader. Assumes nothing.
+use mathlib.Core.Path.{◌≡◌}
+use mathlib.Core.List.{List}
+use Prim.Native.Nat.{◌≤◌}
+use native.Mathlib.Omega.{arith}
+use lib.IntN.{ℤ, pos}
+use lib.ListN.{replicate}
+use Rattle.integers.specs.Ranges.{natural}
+use Rattle.integers.proofs.Machine.{back}
+use Rattle.allocation_file.specs.File.{file_of}
+use Rattle.firsthour.proofs.Reading.{file_refused, file_read, file_few}
+use borrow.Author.Rules.{rules}
+use Rattle.firsthour.proofs.file_text.Goals as goal
+
+abbrev zeros : List ℤ
+zeros = replicate 128 (pos 0)
+
+pub returns-in-Refused : goal.returns-in-Refused
+returns-in-Refused c = rw (file_refused (file_of c.args.file.now) c.in-Refused.ensures.answer) c.write_refused.ensures
+
+pub amounts_text-requires : goal.amounts_text-requires
+amounts_text-requires c =
+    let counted : c.natural.result ≡ natural c.in-Read.read.lines = rw (back c.in-Read.read.lines (search rules)) at c.natural.ensures in
+    let few : c.natural.result ≤ 128 = file_few c.args.file.now zeros zeros zeros zeros c.in-Read.ensures.answer counted in
+    let l = c.read_hour_file.auto in
+    record {
+      room = c.requires;
+      users = few;
+      entry = omega (arith, few, l.entries);
+      exit = omega (arith, few, l.exits);
+      title = omega (arith, few, l.titles);
+      pooling = omega (arith, few, l.poolings);
+    }
+
+pub returns : goal.returns
+returns c =
+    let counted : c.natural.result ≡ natural c.in-Read.read.lines = rw (back c.in-Read.read.lines (search rules)) at c.natural.ensures in
+    let r = c.read_hour_file.ensures in
+    rw (file_read (file_of c.args.file.now) zeros zeros zeros zeros c.in-Read.ensures.answer counted r.entries r.exits r.titles r.poolings)
+    (rw (back c.in-Read.read.hour (search rules), back c.in-Read.read.zone (search rules)) at c.amounts_text.ensures)
