@@ -15,4 +15,4 @@ unfolding
     as_row file_of rules digits_in digits decimal line_end heading field user_line
     refused_line line_at user_lines hour_text unless_refused settled terms_of january_terms with_defaults opened
     opened_new of_file printed
-examples-printed = record { case_a_lem = refl; empty = refl; header_only = refl; hour_2 = refl; zone_l = refl }
+examples-printed = record { case_a = refl; empty = refl; header_only = refl; hour_2 = refl; zone_l = refl }

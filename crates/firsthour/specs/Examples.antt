@@ -11,7 +11,7 @@ abbrev pub Prints : String → String → Type 0
 Prints input output = printed (bytes input) ≡ bytes output
 
 pub record ExamplesPrinted : Type 0 where
-  pub case_a_lem : Prints case_a_text case_a_output
+  pub case_a : Prints case_a_text case_a_output
   pub empty : Prints "" "refused,13\r\n"
   pub header_only : Prints "h,z,g,EEA,XEA,NCTTN,IPT\r\n" "refused,17\r\n"
   pub hour_2 : Prints "h,z,g,EEA,XEA,NCTTN,IPT\r\n2,H,0,0,0,0,0\r\n" "refused,6\r\n"
