@@ -23,7 +23,7 @@ pub write_field-end-requires : goal.write_field-end-requires
 write_field-end-requires c =
     let r = c.args.row in
     let e : to_z w64 (of_z w64 r.entry) ≡ r.entry = search rules in
-    rw e (part-fits (starts c.args.out.now c.args.at r c.requires))
+    rw (← e) at (part-fits (starts c.args.out.now c.args.at r c.requires))
 
 pub write_field-end-requires-2 : goal.write_field-end-requires-2
 write_field-end-requires-2 c =
@@ -31,7 +31,7 @@ write_field-end-requires-2 c =
     let e : to_z w64 (of_z w64 r.entry) ≡ r.entry = search rules in
     let x : to_z w64 (of_z w64 r.exit) ≡ r.exit = search rules in
     let entry = part_written (starts c.args.out.now c.args.at r c.requires) (put_read field e c.write_field-end.ensures).0 in
-    rw x (part-fits entry)
+    rw (← x) at (part-fits entry)
 
 pub write_field-end-requires-3 : goal.write_field-end-requires-3
 write_field-end-requires-3 c =
@@ -41,7 +41,7 @@ write_field-end-requires-3 c =
     let t : to_z w64 (of_z w64 r.title) ≡ r.title = search rules in
     let entry = part_written (starts c.args.out.now c.args.at r c.requires) (put_read field e c.write_field-end.ensures).0 in
     let exit = part_written entry (put_read field x c.write_field-end-2.ensures).0 in
-    rw t (part-fits exit)
+    rw (← t) at (part-fits exit)
 
 pub write_decimal-end-requires : goal.write_decimal-end-requires
 write_decimal-end-requires c =
@@ -53,7 +53,7 @@ write_decimal-end-requires c =
     let entry = part_written (starts c.args.out.now c.args.at r c.requires) (put_read field e c.write_field-end.ensures).0 in
     let exit = part_written entry (put_read field x c.write_field-end-2.ensures).0 in
     let title = part_written exit (put_read field t c.write_field-end-3.ensures).0 in
-    rw p (part-fits title)
+    rw (← p) at (part-fits title)
 
 pub write_line_end-requires : goal.write_line_end-requires
 write_line_end-requires c =
