@@ -11,3 +11,7 @@ for f in sorted(files) + [root / "README.md", *root.glob("docs/**/*.md")]:
     turned = re.sub(r"(?<![\w'₀-])(get_d_map|get_d_tabulate|get_d_zip|sumℤ)(?![\w'₀-])", lambda m: names[m[0]], text)
     if turned != text:
         f.write_text(turned)
+
+# A field that the first script gave the name of the lemma that was spelled alike.
+for f in sorted(root.glob("crates/firsthour/*/Examples.antt")):
+    f.write_text(f.read_text().replace("case_a_lem", "case_a"))
