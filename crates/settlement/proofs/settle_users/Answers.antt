@@ -51,7 +51,8 @@ returns-in-Excess c =
     let d = (goal.at.returns-in-Excess c).After-imbalance_of-imbalance in
     let v = c.settle_side-marked.ensures in
     rw (read (overflow_cast-result c))
-    (side_left c.requires.1 _ c.add_amounts.ensures true _ (against d c.in-Excess.is) _ _ _ _ _ v _ (ap (Settled (Excess (pos c.in-Excess.total))) v.marked))
+    (side_left c.requires.1 _ c.add_amounts.ensures true _ (against d c.in-Excess.is) _ _ _ _ _ v _
+    (ap (Settled (Excess (pos c.in-Excess.total))) v.marked))
 
 -- ---- in a shortfall
 pub settle_side-marked-requires-in-Shortfall : goal.settle_side-marked-requires-in-Shortfall
@@ -72,7 +73,8 @@ returns-in-Shortfall c =
     let d = (goal.at.returns-in-Shortfall c).After-imbalance_of-imbalance in
     let v = c.settle_side-marked-in-Shortfall.ensures in
     rw (read (overflow_cast-result-in-Shortfall c))
-    (side_left c.requires.1 _ c.add_amounts.ensures false _ (against d c.in-Shortfall.is) _ _ _ _ _ v _ (ap (Settled (Shortfall (pos c.in-Shortfall.total))) v.marked))
+    (side_left c.requires.1 _ c.add_amounts.ensures false _ (against d c.in-Shortfall.is) _ _ _ _ _ v _
+    (ap (Settled (Shortfall (pos c.in-Shortfall.total))) v.marked))
 
 -- ---- within the thresholds
 pub returns-in-Within : goal.returns-in-Within
