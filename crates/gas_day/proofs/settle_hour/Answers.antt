@@ -1,37 +1,20 @@
 -- By the cause. Assumes nothing.
 use Rattle.integers.proofs.Machine.{back}
-use Rattle.rules.specs.Hours.{Hour, hour_given}
 use Rattle.gas_day.proofs.Hours.{refused, day_fits_lem, asks, done}
 use borrow.Author.Rules.{rules}
 use Rattle.gas_day.proofs.settle_hour.Goals as goal
 
 pub returns-then-cause-ne0 : goal.returns-then-cause-ne0
-returns-then-cause-ne0 c =
-    let given : Hour = let a = c.args in
-    hour_given a.terms a.entry.now a.exit.now a.title.now a.pooling.now a.quantity.now a.money.now a.scratch.now
-    in
-    rw c.refusal.ensures
-    (refused _ _ given _ c.hour_cause-cause.ensures c.if-cause-ne0.true)
+returns-then-cause-ne0 c = rw c.refusal.ensures (refused _ _ _ _ c.hour_cause-cause.ensures c.if-cause-ne0.true)
 
 pub settle_table-outcome-requires : goal.settle_table-outcome-requires
-settle_table-outcome-requires c =
-    let given : Hour = let a = c.args in
-    hour_given a.terms a.entry.now a.exit.now a.title.now a.pooling.now a.quantity.now a.money.now a.scratch.now
-    in
-    asks _ _ given _ c.hour_cause-cause.ensures c.if-cause-ne0.false
+settle_table-outcome-requires c = asks _ _ _ _ c.hour_cause-cause.ensures c.if-cause-ne0.false
 
 pub day_after_hour-next-requires : goal.day_after_hour-next-requires
-day_after_hour-next-requires c =
-    let given : Hour = let a = c.args in
-    hour_given a.terms a.entry.now a.exit.now a.title.now a.pooling.now a.quantity.now a.money.now a.scratch.now
-    in
-    day_fits_lem _ _ given _ c.hour_cause-cause.ensures c.if-cause-ne0.false
+day_after_hour-next-requires c = day_fits_lem _ _ _ _ c.hour_cause-cause.ensures c.if-cause-ne0.false
 
 pub returns : goal.returns
 returns c =
-    let given : Hour = let a = c.args in
-    hour_given a.terms a.entry.now a.exit.now a.title.now a.pooling.now a.quantity.now a.money.now a.scratch.now
-    in
-    done _ _ given _ c.hour_cause-cause.ensures c.if-cause-ne0.false _ _ _ _ _ _
+    done _ _ _ _ c.hour_cause-cause.ensures c.if-cause-ne0.false _ _ _ _ _ _
     c.settle_table-outcome.ensures
     (rw (back c.args.terms.zone (search rules)) at c.day_after_hour-next.ensures)

@@ -6,28 +6,26 @@ use Rattle.integers.proofs.Machine.{back}
 use Rattle.rules.proofs.Zones.{part_h, part_l}
 use Rattle.settlement.proofs.Tables.{left_h, left_l}
 use borrow.Author.Rules.{rules}
+use Rattle.settlement.proofs.settle_table.Goals.{After-is_zero}
 use Rattle.settlement.proofs.settle_table.Goals as goal
+
+-- the test of the zone, of which the machine reads the bits
+tested : (c : After-is_zero) {b : Bool} → c.is_zero.result ≡ b → is_zero c.args.terms.zone ≡ b
+tested c e = sym (ap is_zero (back c.args.terms.zone (search rules))) ∙ sym c.is_zero.ensures ∙ e
 
 pub settle_zone-requires : goal.settle_zone-requires
 settle_zone-requires c =
-    let tested : (b : Bool) → c.is_zero.result ≡ b → is_zero c.args.terms.zone ≡ b = λ b e. sym (ap is_zero (back c.args.terms.zone (search rules))) ∙ sym c.is_zero.ensures ∙ e
-    in
-    rw (part_h _ _ (tested _ c.if-is_zero.true)) at c.requires.lists
+    rw (part_h _ _ (tested (goal.at.settle_zone-requires c).After-is_zero c.if-is_zero.true)) at c.requires.lists
 
 pub settle_zone-requires-else-is_zero : goal.settle_zone-requires-else-is_zero
 settle_zone-requires-else-is_zero c =
-    let tested : (b : Bool) → c.is_zero.result ≡ b → is_zero c.args.terms.zone ≡ b = λ b e. sym (ap is_zero (back c.args.terms.zone (search rules))) ∙ sym c.is_zero.ensures ∙ e
-    in
-    rw (part_l _ _ (tested _ c.if-is_zero.false)) at c.requires.lists
+    rw (part_l _ _ (tested (goal.at.settle_zone-requires-else-is_zero c).After-is_zero c.if-is_zero.false)) at c.requires.lists
 
 pub returns-then-is_zero : goal.returns-then-is_zero
 returns-then-is_zero c =
-    let tested : (b : Bool) → c.is_zero.result ≡ b → is_zero c.args.terms.zone ≡ b = λ b e. sym (ap is_zero (back c.args.terms.zone (search rules))) ∙ sym c.is_zero.ensures ∙ e
-    in
-    left_h _ _ _ _ _ _ _ _ _ _ _ _ (tested _ c.if-is_zero.true) c.settle_zone.ensures
+    left_h _ _ _ _ _ _ _ _ _ _ _ _ (tested (goal.at.returns-then-is_zero c).After-is_zero c.if-is_zero.true) c.settle_zone.ensures
 
 pub returns-else-is_zero : goal.returns-else-is_zero
 returns-else-is_zero c =
-    let tested : (b : Bool) → c.is_zero.result ≡ b → is_zero c.args.terms.zone ≡ b = λ b e. sym (ap is_zero (back c.args.terms.zone (search rules))) ∙ sym c.is_zero.ensures ∙ e
-    in
-    left_l _ _ _ _ _ _ _ _ _ _ _ _ (tested _ c.if-is_zero.false) c.settle_zone-else-is_zero.ensures
+    left_l _ _ _ _ _ _ _ _ _ _ _ _ (tested (goal.at.returns-else-is_zero c).After-is_zero c.if-is_zero.false)
+    c.settle_zone-else-is_zero.ensures
