@@ -1,8 +1,6 @@
 -- The zone's part of the record, by the test of the zone. Assumes nothing.
-use mathlib.Core.Path.{◌≡◌, sym, ap, ◌∙◌}
-use mathlib.Core.Bool.{Bool}
+use mathlib.Core.Path.{sym, ◌∙◌}
 use lib.IntN.{pos}
-use Rattle.integers.specs.Ranges.{is_zero}
 use Rattle.integers.proofs.Machine.{read}
 use Rattle.rules.specs.Days.{zone_day, hours_done, with_zone_day, day_after_hour}
 use Rattle.day_record.proofs.Records.{hours_few}
@@ -19,21 +17,11 @@ hour_more-requires-else-is_zero c = hours_few (pos 1) _ c.requires
 pub returns-then-is_zero : goal.returns-then-is_zero
 unfolding day_after_hour with_zone_day
 returns-then-is_zero c =
-    let tested : (b : Bool) → c.is_zero.result ≡ b → is_zero c.args.zone ≡ b = λ b e. sym (ap is_zero (read c.ranges.zone)) ∙ sym c.is_zero.ensures ∙ e
-    in
-    rw (
-      c.with_zones.ensures,
-      c.hour_more.ensures,
-      tested _ c.if-is_zero.true,
-    )
+    let z = sym (rw (read c.ranges.zone) at c.is_zero.ensures) ∙ c.if-is_zero.true in
+    rw (c.with_zones.ensures, c.hour_more.ensures, z)
 
 pub returns-else-is_zero : goal.returns-else-is_zero
 unfolding day_after_hour with_zone_day
 returns-else-is_zero c =
-    let tested : (b : Bool) → c.is_zero.result ≡ b → is_zero c.args.zone ≡ b = λ b e. sym (ap is_zero (read c.ranges.zone)) ∙ sym c.is_zero.ensures ∙ e
-    in
-    rw (
-      c.with_zones-else-is_zero.ensures,
-      c.hour_more-else-is_zero.ensures,
-      tested _ c.if-is_zero.false,
-    )
+    let z = sym (rw (read c.ranges.zone) at c.is_zero.ensures) ∙ c.if-is_zero.false in
+    rw (c.with_zones-else-is_zero.ensures, c.hour_more-else-is_zero.ensures, z)

@@ -11,8 +11,7 @@ use Rattle.rules.specs.Causes.{hour_next}
 use Rattle.day_record.proofs.Records.{hours_few}
 use Rattle.integers.proofs.Machine.{read, back, fitting}
 use borrow.Author.Rules.{rules}
-use mir.Syntax.{w64}
-use mir.Val.{SFits, to_z, of_z}
+use Rattle.day_record.proofs.hour_next.Goals.{After-hours_done-next}
 use Rattle.day_record.proofs.hour_next.Goals as goal
 
 pub overflow_add-next : goal.overflow_add-next
@@ -24,17 +23,16 @@ pub returns : goal.returns
 unfolding hour_next
 returns c =
     let n = c.hours_of_day-length in
-    let few : nat_abs c.hours_done-next.result ≤ length_most = rw c.hours_done-next.ensures (hours_few _ _ c.requires) in
-    let next_fits : SFits w64 (to_z w64 (of_z w64 c.hours_done-next.result) +ℤ pos 1) = omega fitting in
+    let h = c.hours_done-next in
     let d = c.args.day in
     let k = c.args.terms in
     rw (
       c.both.ensures,
       c.at_most.ensures,
       c.equal.ensures,
-      read next_fits,
-      back c.hours_done-next.result c.hours_done-next.type_inv,
-      c.hours_done-next.ensures,
+      read (overflow_add-next (goal.at.returns c).After-hours_done-next),
+      back h.result h.type_inv,
+      h.ensures,
       back k.zone (search rules),
       back k.hour (search rules),
     )

@@ -4,21 +4,20 @@ use lib.ListN.{take}
 use Rattle.integers.specs.Lists.{every}
 use Rattle.rules.specs.Limits.{position_fit}
 use Rattle.places.proofs.Tables.{live_fit, to_end, from_start}
+use Rattle.places.proofs.part_fit.Goals.{After-all_fit}
 use Rattle.places.proofs.part_fit.Goals as goal
+
+-- the test of the live places
+live : (c : After-all_fit) → c.all_fit.result ≡ every position_fit (take c.args.live c.args.part.now)
+live c = simp from_start at c.all_fit.ensures
 
 pub returns-then-all_fit : goal.returns-then-all_fit
 returns-then-all_fit c =
-    let live : let a = c.args in
-    c.all_fit.result ≡ every position_fit (take a.live a.part.now) = simp from_start at c.all_fit.ensures
-    in
     let a = c.args in
-    rw (← live_fit a.part.now a.live, sym live ∙ c.if-all_fit.true)
+    rw (← live_fit a.part.now a.live, sym (live (goal.at.returns-then-all_fit c).After-all_fit) ∙ c.if-all_fit.true)
     (simp to_end at c.all_zero.ensures)
 
 pub returns-else-all_fit : goal.returns-else-all_fit
 returns-else-all_fit c =
-    let live : let a = c.args in
-    c.all_fit.result ≡ every position_fit (take a.live a.part.now) = simp from_start at c.all_fit.ensures
-    in
     let a = c.args in
-    rw (← live_fit a.part.now a.live, sym live ∙ c.if-all_fit.false)
+    rw (← live_fit a.part.now a.live, sym (live (goal.at.returns-else-all_fit c).After-all_fit) ∙ c.if-all_fit.false)

@@ -1,10 +1,9 @@
 -- Part by part. Assumes nothing.
-use mathlib.Core.Path.{◌≡◌, sym, ◌∙◌}
+use mathlib.Core.Path.{sym, ◌∙◌}
 use native.Mathlib.Omega.{arith}
 use lib.IntN.{pos}
 use lib.ListN.{length-take, length-drop}
 use Rattle.rules.specs.Days.{first_place, part}
-use Rattle.places.specs.Live.{live_places, part_fit}
 use Rattle.places.proofs.Tables.{live_le, table_parts}
 use Rattle.places.proofs.table_fit.Goals as goal
 
@@ -16,13 +15,8 @@ part_fit-requires c =
 pub returns-then-not-part_fit : goal.returns-then-not-part_fit
 unfolding part first_place
 returns-then-not-part_fit c =
-    let part_h : let a = c.args in
-    c.part_fit.result ≡ part_fit (live_places (pos 0) a.day) (part (pos 0) a.table.now) = rw c.live_places-h.ensures at c.part_fit.ensures
-    in
-    rw (
-      ← table_parts c.args.day c.args.table.now c.requires.long,
-      sym part_h ∙ c.if-not-part_fit.true,
-    )
+    let part_h = rw c.live_places-h.ensures at c.part_fit.ensures in
+    rw (← table_parts c.args.day c.args.table.now c.requires.long, sym part_h ∙ c.if-not-part_fit.true)
 
 pub part_fit-requires-2 : goal.part_fit-requires-2
 part_fit-requires-2 c =
@@ -32,11 +26,6 @@ part_fit-requires-2 c =
 pub returns : goal.returns
 unfolding part first_place
 returns c =
-    let part_h : let a = c.args in
-    c.part_fit.result ≡ part_fit (live_places (pos 0) a.day) (part (pos 0) a.table.now) = rw c.live_places-h.ensures at c.part_fit.ensures
-    in
-    rw (
-      ← table_parts c.args.day c.args.table.now c.requires.long,
-      sym part_h ∙ c.if-not-part_fit.false,
-    )
+    let part_h = rw c.live_places-h.ensures at c.part_fit.ensures in
+    rw (← table_parts c.args.day c.args.table.now c.requires.long, sym part_h ∙ c.if-not-part_fit.false)
     (rw c.live_places-l.ensures at c.part_fit-2.ensures)

@@ -1,15 +1,11 @@
 -- Each call is handed what the one before it left (proofs/OneSide.antt). Assumes nothing.
-use mathlib.Core.Path.{◌≡◌, ◌∙◌}
+use mathlib.Core.Path.{◌∙◌}
 use Rattle.integers.proofs.Machine.{back}
-use mir.Syntax.{w64}
-use mir.Val.{to_z, of_z}
 use Rattle.rules.proofs.Small.{positions_small}
-use Rattle.sides.specs.Sides.{price_on}
 use Rattle.sides.proofs.OneSide.{few, apportion_asked, book_asked, price_small, side_left}
 use borrow.Author.Rules.{rules}
 use Rattle.sides.proofs.settle_side.Goals as goal
 
--- ---- the needs
 pub marks_of-marked-requires : goal.marks_of-marked-requires
 marks_of-marked-requires c = (few c.requires, positions_small _ c.requires.positions)
 
@@ -23,14 +19,12 @@ apportion-requires c =
 
 pub book_all-requires : goal.book_all-requires
 book_all-requires c =
-    let price : let a = c.args in to_z w64 (of_z w64 c.price_on.result) ≡ price_on a.up a.terms = back _ c.price_on.type_inv ∙ c.price_on.ensures
-    in
+    let price = back _ c.price_on.type_inv ∙ c.price_on.ensures in
     let b = book_asked c.requires _ c.size_all.ensures _ c.apportion.ensures.shares in
     (b.0, b.1, rw price (price_small c.requires _ c.size_all.ensures _ c.apportion.ensures.shares), b.2, b.3)
 
 pub returns : goal.returns
 returns c =
-    let price : let a = c.args in to_z w64 (of_z w64 c.price_on.result) ≡ price_on a.up a.terms = back _ c.price_on.type_inv ∙ c.price_on.ensures
-    in
+    let price = back _ c.price_on.type_inv ∙ c.price_on.ensures in
     side_left c.requires _ c.size_all.ensures _ c.apportion.ensures.shares _ _ _ _ _ (rw price at c.book_all.ensures)
     c.apportion.ensures.cleared (search rules) c.marks_of-marked.ensures
