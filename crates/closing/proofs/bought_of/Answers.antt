@@ -10,8 +10,7 @@ use Rattle.closing.proofs.bought_of.Goals as goal
 pub returns-then-quantity-lt0 : goal.returns-then-quantity-lt0
 unfolding bought_of
 returns-then-quantity-lt0 c =
-    let below-zero : lt_z c.args.quantity (pos 0) ≡ true = rw (read c.ranges.quantity) at c.if-quantity-lt0.true
-    in
+    let below-zero : lt_z c.args.quantity (pos 0) ≡ true = rw (read c.ranges.quantity) at c.if-quantity-lt0.true in
     rw below-zero (back _ c.negated.type_inv ∙ c.negated.ensures ∙ ap neg_ℤ (read c.ranges.quantity))
 
 pub returns-else-quantity-lt0 : goal.returns-else-quantity-lt0

@@ -1,10 +1,8 @@
 -- Each turn writes a position before. Assumes nothing.
-use mathlib.Core.Path.{◌≡◌, sym, ap₂, ◌∙◌}
+use mathlib.Core.Path.{sym, ap₂, ◌∙◌}
 use native.Mathlib.Omega.{arith}
 use lib.IntN.{ℤ, pos, ◌+ℤ◌}
-use lib.ListN.{length, get_or}
-use mir.Syntax.{w64}
-use mir.Val.{to_z, of_z}
+use lib.ListN.{get_or}
 use borrow.Author.Rules.{rules}
 use Rattle.integers.proofs.Machine.{read, back}
 use Rattle.integers.proofs.Passes.{written_next, written_all}
@@ -14,37 +12,26 @@ use Rattle.hour_text.proofs.add_quantities.Goals as goal
 
 pub overflow_add-before : goal.overflow_add-before
 overflow_add-before c =
-    let first : let x =
-    get_or c.args.quantity.now c.loop-i.i (pos 0) in to_z w64 (of_z w64 x) ≡ x = back (get_or c.args.quantity.now c.loop-i.i (pos 0)) (search rules)
-    in
-    let second : let x =
-    get_or c.args.after.now c.loop-i.i (pos 0) in to_z w64 (of_z w64 x) ≡ x = back (get_or c.args.after.now c.loop-i.i (pos 0)) (search rules)
-    in
     let a = c.args in
-    sum_fits a.quantity.now a.after.now c.requires c.loop-i.i
-    (search rules) first second
+    let i = c.loop-i.i in
+    sum_fits a.quantity.now a.after.now c.requires i (search rules)
+    (back (get_or a.quantity.now i (pos 0)) (search rules)) (back (get_or a.after.now i (pos 0)) (search rules))
 
 pub loop-i-preserved : goal.loop-i-preserved
 loop-i-preserved c =
-    let long : length (sums c.args.quantity.now c.args.after.now) ≡ length c.args.before.now = length-sums c.args.quantity.now c.args.after.now ∙ sym c.requires.outs
-    in
-    let first : let x =
-    get_or c.args.quantity.now c.loop-i.i (pos 0) in to_z w64 (of_z w64 x) ≡ x = back (get_or c.args.quantity.now c.loop-i.i (pos 0)) (search rules)
-    in
-    let second : let x =
-    get_or c.args.after.now c.loop-i.i (pos 0) in to_z w64 (of_z w64 x) ≡ x = back (get_or c.args.after.now c.loop-i.i (pos 0)) (search rules)
-    in
     let l = c.loop-i in
     let q = c.args.quantity.now in
-    let a = c.args.after.now in (
+    let a = c.args.after.now in
+    let first = back (get_or q l.i (pos 0)) (search rules) in
+    let second = back (get_or a l.i (pos 0)) (search rules) in (
       search rules,
-      written_next (sums q a) c.args.before.now l.before l.i l.invariant.1 long (pos 0) _ (omega (arith, c.requires.outs))
+      written_next (sums q a) c.args.before.now l.before l.i l.invariant.1 (length-sums q a ∙ sym c.requires.outs) (pos 0) _ (omega (arith, c.requires.outs))
           (read (overflow_add-before c) ∙ ap₂ (λ (x y : ℤ). x +ℤ y) first second ∙ sym (sums_at q a l.i (search rules))),
     )
 
 pub returns : goal.returns
 returns c =
-    let long : length (sums c.args.quantity.now c.args.after.now) ≡ length c.args.before.now = length-sums c.args.quantity.now c.args.after.now ∙ sym c.requires.outs
-    in
     let l = c.loop-i in
-    written_all _ c.args.before.now l.before l.i l.invariant.1 long (omega (arith, c.requires.outs))
+    let a = c.args in
+    let long = length-sums a.quantity.now a.after.now ∙ sym c.requires.outs in
+    written_all _ a.before.now l.before l.i l.invariant.1 long (omega (arith, c.requires.outs))

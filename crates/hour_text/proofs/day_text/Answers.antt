@@ -1,9 +1,7 @@
 -- By the answer to the opening. Assumes nothing.
-use mathlib.Core.Path.{◌≡◌, ◌∙◌}
+use mathlib.Core.Path.{◌∙◌}
 use lib.IntN.{pos}
 use lib.ListN.{length}
-use mir.Syntax.{w64}
-use mir.Val.{to_z, of_z}
 use Rattle.integers.proofs.Machine.{read, back}
 use Rattle.hour_text.specs.Opened.{program_length, opened}
 use Rattle.hour_text.proofs.Opening.{accepted_text, open_refused, open_none, open_day}
@@ -12,7 +10,7 @@ use Rattle.hour_text.proofs.day_text.Goals as goal
 pub returns-in-Refused : goal.returns-in-Refused
 unfolding opened
 returns-in-Refused c =
-    let counted : to_z w64 (of_z w64 c.signed-users.result) ≡ pos (length c.args.entry.now) = back c.signed-users.result c.signed-users.type_inv ∙ c.signed-users.ensures in
+    let counted = back _ c.signed-users.type_inv ∙ c.signed-users.ensures in
     let a = c.args in
     rw (open_refused (pos (length a.entry.now)) program_length a.table.now _ (rw counted at c.in-Refused.ensures.answer))
     c.write_refused.ensures
@@ -20,7 +18,7 @@ returns-in-Refused c =
 pub returns : goal.returns
 unfolding opened
 returns c =
-    let counted : to_z w64 (of_z w64 c.signed-users.result) ≡ pos (length c.args.entry.now) = back c.signed-users.result c.signed-users.type_inv ∙ c.signed-users.ensures in
+    let counted = back _ c.signed-users.type_inv ∙ c.signed-users.ensures in
     let n = pos (length c.args.entry.now) in
     let e = rw counted at c.in-Opened.ensures.answer in
     let t = rw counted at c.«open».ensures.table in
