@@ -3,10 +3,12 @@ use mathlib.Core.Path.{◌≡◌, refl}
 use mathlib.Core.List.{List, [], ◌∷◌}
 use Prim.Native.Nat.{ℕ, ◌+◌, ◌≤◌}
 use borrow.Author.Rules.{rules}
+use lib.IntN.{ℤ}
 use lib.ListN.{length}
 use mir.Syntax.{w64}
 use mir.Val.{to_z, of_z}
 use Rattle.text.specs.Bytes.{line_end}
+use Rattle.text.specs.Puts.{Put}
 use Rattle.text.specs.Decimals.{decimal, field}
 use Rattle.text.proofs.Puts.{Writing, writing_starts, part-fits, part_written, writing_ends, put_read}
 use Rattle.allocation_row.specs.declared.Row.{Row}
@@ -19,63 +21,49 @@ starts : (out : List ℕ) (at : ℕ) (r : Row) → at + length (amounts_text r) 
 unfolding amounts_text line_end
 starts out at r room = writing_starts (amounts_text r) _ refl room
 
+-- an amount is to be written, and is read back from its bits
+module _ (text : ℤ → List ℕ) {out₀ whole out : List ℕ} {at₀ at : ℕ} {x : ℤ} {parts : List (List ℕ)} (w : Writing out₀ at₀ whole out at (text x ∷ parts))
+    (e : to_z w64 (of_z w64 x) ≡ x) where
+  -- there is room for it
+  amount_fits : at + length (text (to_z w64 (of_z w64 x))) ≤ length out
+  amount_fits = rw (← e) at (part-fits w)
+
+  -- it is written
+  amount_written : {out' : List ℕ} {r n : ℕ} → Put out at (text (to_z w64 (of_z w64 x))) out' r × (r ≤ n) → Writing out₀ at₀ whole out' r parts
+  amount_written p = part_written w (put_read text e p).0
+
 pub write_field-end-requires : goal.write_field-end-requires
-write_field-end-requires c =
-    let r = c.args.row in
-    let e : to_z w64 (of_z w64 r.entry) ≡ r.entry = search rules in
-    rw (← e) at (part-fits (starts c.args.out.now c.args.at r c.requires))
+write_field-end-requires c = amount_fits field (starts c.args.out.now c.args.at c.args.row c.requires) (search rules)
 
 pub write_field-end-requires-2 : goal.write_field-end-requires-2
 write_field-end-requires-2 c =
-    let r = c.args.row in
-    let e : to_z w64 (of_z w64 r.entry) ≡ r.entry = search rules in
-    let x : to_z w64 (of_z w64 r.exit) ≡ r.exit = search rules in
-    let entry = part_written (starts c.args.out.now c.args.at r c.requires) (put_read field e c.write_field-end.ensures).0 in
-    rw (← x) at (part-fits entry)
+    let entry = amount_written field (starts c.args.out.now c.args.at c.args.row c.requires) (search rules) c.write_field-end.ensures in
+    amount_fits field entry (search rules)
 
 pub write_field-end-requires-3 : goal.write_field-end-requires-3
 write_field-end-requires-3 c =
-    let r = c.args.row in
-    let e : to_z w64 (of_z w64 r.entry) ≡ r.entry = search rules in
-    let x : to_z w64 (of_z w64 r.exit) ≡ r.exit = search rules in
-    let t : to_z w64 (of_z w64 r.title) ≡ r.title = search rules in
-    let entry = part_written (starts c.args.out.now c.args.at r c.requires) (put_read field e c.write_field-end.ensures).0 in
-    let exit = part_written entry (put_read field x c.write_field-end-2.ensures).0 in
-    rw (← t) at (part-fits exit)
+    let entry = amount_written field (starts c.args.out.now c.args.at c.args.row c.requires) (search rules) c.write_field-end.ensures in
+    let exit = amount_written field entry (search rules) c.write_field-end-2.ensures in
+    amount_fits field exit (search rules)
 
 pub write_decimal-end-requires : goal.write_decimal-end-requires
 write_decimal-end-requires c =
-    let r = c.args.row in
-    let e : to_z w64 (of_z w64 r.entry) ≡ r.entry = search rules in
-    let x : to_z w64 (of_z w64 r.exit) ≡ r.exit = search rules in
-    let t : to_z w64 (of_z w64 r.title) ≡ r.title = search rules in
-    let p : to_z w64 (of_z w64 r.pooling) ≡ r.pooling = search rules in
-    let entry = part_written (starts c.args.out.now c.args.at r c.requires) (put_read field e c.write_field-end.ensures).0 in
-    let exit = part_written entry (put_read field x c.write_field-end-2.ensures).0 in
-    let title = part_written exit (put_read field t c.write_field-end-3.ensures).0 in
-    rw (← p) at (part-fits title)
+    let entry = amount_written field (starts c.args.out.now c.args.at c.args.row c.requires) (search rules) c.write_field-end.ensures in
+    let exit = amount_written field entry (search rules) c.write_field-end-2.ensures in
+    let title = amount_written field exit (search rules) c.write_field-end-3.ensures in
+    amount_fits decimal title (search rules)
 
 pub write_line_end-requires : goal.write_line_end-requires
 write_line_end-requires c =
-    let r = c.args.row in
-    let e : to_z w64 (of_z w64 r.entry) ≡ r.entry = search rules in
-    let x : to_z w64 (of_z w64 r.exit) ≡ r.exit = search rules in
-    let t : to_z w64 (of_z w64 r.title) ≡ r.title = search rules in
-    let p : to_z w64 (of_z w64 r.pooling) ≡ r.pooling = search rules in
-    let entry = part_written (starts c.args.out.now c.args.at r c.requires) (put_read field e c.write_field-end.ensures).0 in
-    let exit = part_written entry (put_read field x c.write_field-end-2.ensures).0 in
-    let title = part_written exit (put_read field t c.write_field-end-3.ensures).0 in
-    part-fits (part_written title (put_read decimal p c.write_decimal-end.ensures).0)
+    let entry = amount_written field (starts c.args.out.now c.args.at c.args.row c.requires) (search rules) c.write_field-end.ensures in
+    let exit = amount_written field entry (search rules) c.write_field-end-2.ensures in
+    let title = amount_written field exit (search rules) c.write_field-end-3.ensures in
+    part-fits (amount_written decimal title (search rules) c.write_decimal-end.ensures)
 
 pub returns : goal.returns
 returns c =
-    let r = c.args.row in
-    let e : to_z w64 (of_z w64 r.entry) ≡ r.entry = search rules in
-    let x : to_z w64 (of_z w64 r.exit) ≡ r.exit = search rules in
-    let t : to_z w64 (of_z w64 r.title) ≡ r.title = search rules in
-    let p : to_z w64 (of_z w64 r.pooling) ≡ r.pooling = search rules in
-    let entry = part_written (starts c.args.out.now c.args.at r c.requires) (put_read field e c.write_field-end.ensures).0 in
-    let exit = part_written entry (put_read field x c.write_field-end-2.ensures).0 in
-    let title = part_written exit (put_read field t c.write_field-end-3.ensures).0 in
-    let pooling = part_written title (put_read decimal p c.write_decimal-end.ensures).0 in
+    let entry = amount_written field (starts c.args.out.now c.args.at c.args.row c.requires) (search rules) c.write_field-end.ensures in
+    let exit = amount_written field entry (search rules) c.write_field-end-2.ensures in
+    let title = amount_written field exit (search rules) c.write_field-end-3.ensures in
+    let pooling = amount_written decimal title (search rules) c.write_decimal-end.ensures in
     writing_ends (part_written pooling c.write_line_end.ensures)
