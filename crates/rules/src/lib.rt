@@ -2,15 +2,69 @@
 
 #![tactic(auto)]
 
+ghost use Rattle.std.specs.Prelude.{◌≡◌};
+ghost use Rattle.rules.specs.Refusals.{number};
+
+// The causes for turning a call away, each under the papers' words.
+#[derive(Clone, Copy, PartialEq, Eq)]
+pub enum Cause {
+    // "opening: user count not 1 to 128"
+    Users,
+    // "record's user count not 1 to 128, hours not 0 to 24, or a zone closed with fewer than 24"
+    Record,
+    // "table not of 256 places, or a list or the scratch not of exactly the user count"
+    Lengths,
+    // "zone not 0 or 1"
+    Zone,
+    // "zone closed"
+    Closed,
+    // "hour is not hours done plus 1, or above 24; at closing, hours done below 24"
+    Hour,
+    // "table holds a position outside its range, a non-zero place at or beyond the user count in either zone, or a non-zero place in a zone that is closed or has no hours done"
+    Table,
+    // "threshold or price out of range; month not 1 to 12"
+    Terms,
+    // "an amount out of range"
+    Amounts,
+    // "pooling amounts do not add to zero"
+    Pooling,
+    // "a position before settlement out of range"
+    Positions,
+    // "at opening .. if the length is none of these"
+    DayLength,
+}
+
+impl Cause {
+    // The papers' number.
+    pub fn number(self) -> u64
+        ensures { result ≡ number self }
+    {
+        match self {
+            Cause::Users => 1,
+            Cause::Record => 2,
+            Cause::Lengths => 3,
+            Cause::Zone => 4,
+            Cause::Closed => 5,
+            Cause::Hour => 6,
+            Cause::Table => 7,
+            Cause::Terms => 8,
+            Cause::Amounts => 9,
+            Cause::Pooling => 10,
+            Cause::Positions => 11,
+            Cause::DayLength => 21,
+        }
+    }
+}
+
 // Of one zone: the hours done, and whether it is closed.
-#[derive(Clone, Copy)]
+#[derive(Clone, Copy, PartialEq, Eq)]
 pub struct ZoneDay {
     pub hours: i64,
     pub closed: bool,
 }
 
 // The day record, which goes in by value and comes back by value. Its length is the number of hours that the day has.
-#[derive(Clone, Copy)]
+#[derive(Clone, Copy, PartialEq, Eq)]
 pub struct Day {
     pub users: i64,
     pub length: i64,
@@ -72,6 +126,15 @@ pub struct HourTerms {
     pub lower: i64,
     pub excess_price: i64,
     pub shortfall_price: i64,
+}
+
+// The four amounts of each user, a list each by place: entries (EEA), exits (XEA), net title transfers (NCTTN) and pooling transfers (IPT).
+#[derive(Clone, Copy)]
+pub struct Amounts<'a> {
+    pub entries: &'a [i64],
+    pub exits: &'a [i64],
+    pub titles: &'a [i64],
+    pub poolings: &'a [i64],
 }
 
 // Which side of its thresholds the market was on, and its total: how far.
