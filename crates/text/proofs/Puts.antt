@@ -9,7 +9,8 @@ use lib.ListN.{length, take, drop, set, length-append, length-drop}
 use lib.Seq.{length-take-le, take_at, drop-append-add, drop-drop, set_split, append_snoc, take-length, paste, paste-zero}
 use mir.Syntax.{w64}
 use mir.Val.{to_z, of_z}
-use Rattle.text.specs.Puts.{Put}
+use Rattle.text.specs.declared.writing.Writer.{Writer}
+use Rattle.text.specs.Puts.{Put, Room, Wrote}
 
 drop_past : (p d : List ℕ) (n k : ℕ) → length p ≡ n → drop (n + k) (p ++ d) ≡ drop k d
 drop_past p d n k e = rw (← e) (drop-append-add p d k)
@@ -63,6 +64,19 @@ put_all out at text out' i h e k = record { ends = rw e; room = h; bytes = k ∙
 pub put_none : (out : List ℕ) (at : ℕ) → at ≤ length out → Put out at [] out at
 put_none out at h = record { ends = omega arith; room = omega arith; bytes = paste-zero out at [] }
 
+-- ---- the same of a writer
+
+pub wrote_none : (w : Writer) → Room w 0 → Wrote w w []
+wrote_none w h = record { same = refl; put = put_none w.out.now w.end (omega (arith, h)) }
+
+module _ {w w₁ : Writer} {a : List ℕ} (p : Wrote w w₁ a) where
+  pub wrote_then : {w₂ : Writer} {b : List ℕ} → Wrote w₁ w₂ b → Wrote w w₂ (a ++ b)
+  wrote_then q = record { same = q.same ∙ p.same; put = put_then p.put q.put }
+
+  -- the room that is left
+  pub room_left : (n : ℕ) → Room w (length a + n) → Room w₁ n
+  room_left n h = omega (arith, h, p.put.ends, put_length p.put)
+
 -- ---- a text that is written part by part
 
 -- parts, one after the other
@@ -70,34 +84,31 @@ abbrev pub together : List (List ℕ) → List ℕ
 together [] = []
 together (a ∷ parts) = a ++ together parts
 
--- of the text that is to stand in out₀ from at₀ on, these parts are left: there is room for them in out, which the others have changed, and they make it whole
-pub record Writing (out₀ : List ℕ) (at₀ : ℕ) (text out : List ℕ) (at : ℕ) (parts : List (List ℕ)) : Type 0 where
-  pub room : at + length (together parts) ≤ length out
-  pub whole : (out' : List ℕ) (r : ℕ) → Put out at (together parts) out' r → Put out₀ at₀ text out' r
+-- of the text that a writer is to write from w₀ on, these parts are left at w: there is room for them, and they make it whole
+pub record Writing (w₀ : Writer) (text : List ℕ) (w : Writer) (parts : List (List ℕ)) : Type 0 where
+  pub room : Room w (length (together parts))
+  pub whole : (w' : Writer) → Wrote w w' (together parts) → Wrote w₀ w' text
 
 -- all parts are left
-pub writing_starts : {out : List ℕ} {at : ℕ} (text : List ℕ) (parts : List (List ℕ)) → text ≡ together parts → at + length text ≤ length out
-    → Writing out at text out at parts
-writing_starts text parts e h = record { room = rw e at h; whole = λ out' r p. rw (← e) at p }
+pub writing_starts : {w : Writer} (text : List ℕ) (parts : List (List ℕ)) → text ≡ together parts → Room w (length text) → Writing w text w parts
+writing_starts text parts e h = record { room = rw e at h; whole = λ w' p. rw (← e) at p }
 
-module _ {out₀ : List ℕ} {at₀ : ℕ} {text out : List ℕ} {at : ℕ} where
+module _ {w₀ : Writer} {text : List ℕ} {w : Writer} where
   -- there is room for the first of them
-  pub part-fits : {a : List ℕ} {parts : List (List ℕ)} → Writing out₀ at₀ text out at (a ∷ parts) → at + length a ≤ length out
-  part-fits {a = a} {parts = parts} w = omega (arith, w.room, length-append a (together parts))
+  pub part-fits : {a : List ℕ} {parts : List (List ℕ)} → Writing w₀ text w (a ∷ parts) → Room w (length a)
+  part-fits {a = a} {parts = parts} p = omega (arith, p.room, length-append a (together parts))
 
   -- it is written
-  pub part_written : {a : List ℕ} {parts : List (List ℕ)} → Writing out₀ at₀ text out at (a ∷ parts)
-      → {out' : List ℕ} {r : ℕ} → Put out at a out' r → Writing out₀ at₀ text out' r parts
-  part_written {a = a} {parts = parts} w p = record {
-    room = omega (arith, w.room, length-append a (together parts), p.ends, put_length p);
-    whole = λ out'' r'' q. w.whole out'' r'' (put_then p q);
+  pub part_written : {a : List ℕ} {parts : List (List ℕ)} → Writing w₀ text w (a ∷ parts) → {w' : Writer} → Wrote w w' a → Writing w₀ text w' parts
+  part_written {a = a} {parts = parts} p {w' = w'} q = record {
+    room = room_left q (length (together parts)) (omega (arith, p.room, length-append a (together parts)));
+    whole = λ w'' r. p.whole w'' (wrote_then q r);
   }
 
   -- none is left
-  pub writing_ends : Writing out₀ at₀ text out at [] → Put out₀ at₀ text out at
-  writing_ends w = w.whole out at (put_none out at (omega (arith, w.room)))
+  pub writing_ends : Writing w₀ text w [] → Wrote w₀ w text
+  writing_ends p = p.whole w (wrote_none w p.room)
 
--- the text of a number that a function's proof reads back from its bits, and where it ends at most
-pub put_read : (text : ℤ → List ℕ) {x : ℤ} → to_z w64 (of_z w64 x) ≡ x → {out out' : List ℕ} {at r n : ℕ}
-    → Put out at (text (to_z w64 (of_z w64 x))) out' r × (r ≤ n) → Put out at (text x) out' r × (r ≤ n)
-put_read text e p = rw e at p
+-- the text of a number that a function's proof reads back from its bits
+pub wrote_read : (text : ℤ → List ℕ) {x : ℤ} → to_z w64 (of_z w64 x) ≡ x → {w w' : Writer} → Wrote w w' (text (to_z w64 (of_z w64 x))) → Wrote w w' (text x)
+wrote_read text e p = rw e at p

@@ -1,74 +1,81 @@
-// Bytes, decimals and fields, written into bytes that are lent: each function answers where what it wrote ends, and asks
-// for no more room than its text takes. And how long a decimal is, before it is written.
-ghost use Rattle.std.specs.Prelude.{◌≡◌, [], ◌∷◌, ◌+◌, ◌≤◌, ◌<◌, length};
+// Bytes, decimals and fields, written into bytes that are lent, each after what was written before: no function asks for more room than its text takes. And how long a decimal is,
+// before it is written.
+ghost use Rattle.std.specs.Prelude.{◌≡◌, [], ◌∷◌, ◌+◌, ◌≤◌, length};
 ghost use Rattle.text.specs.Bytes.{line_end};
 ghost use Rattle.text.specs.Decimals.{digits, decimal, field};
-ghost use Rattle.text.specs.Puts.{Put};
+ghost use Rattle.text.specs.Puts.{Room, Wrote};
 
-pub fn write_byte(out: &mut [u8], at: usize, byte: u8) -> usize
-    requires { at < length out.old }
-    ensures { Put out.old at (byte ∷ []) out.new result }
-{
-    out[at] = byte;
-    at + 1
+// Bytes that are lent to be written, and where what is written so far ends.
+#[derive(Drop)]
+pub struct Writer<'a> {
+    pub out: &'a mut [u8],
+    pub end: usize,
 }
 
-pub fn write_bytes(out: &mut [u8], at: usize, text: &[u8]) -> usize
-    requires { at + length text.now ≤ length out.old }
-    ensures { Put out.old at text.now out.new result }
-{
-    let mut i: usize = 0;
-    while i < text.len() {
-        out[at + i] = text[i];
-        i += 1;
+impl Writer<'_> {
+    pub fn byte(&mut self, byte: u8)
+        requires { Room self.old 1 }
+        ensures { Wrote self.old self.new (byte ∷ []) }
+    {
+        self.out[self.end] = byte;
+        self.end += 1;
     }
-    at + i
-}
 
-// The digits of a number: those of its tenth, if it has more than one, then its last. The calls are at most 20 deep.
-pub fn write_digits(out: &mut [u8], at: usize, n: u64) -> usize
-    requires { at + length (digits n) ≤ length out.old }
-    ensures { Put out.old at (digits n) out.new result }
-{
-    if n < 10 {
-        return write_byte(out, at, b'0' + n as u8);
+    pub fn bytes(&mut self, text: &[u8])
+        requires { Room self.old (length text.now) }
+        ensures { Wrote self.old self.new text.now }
+    {
+        let end = self.end + text.len();
+        self.out[self.end..end].copy_from_slice(text);
+        self.end = end;
     }
-    let last = write_digits(out, at, n / 10);
-    write_byte(out, last, b'0' + (n % 10) as u8)
-}
 
-// Every number of 64 bits has at most 20 bytes.
-pub fn write_decimal(out: &mut [u8], at: usize, value: i64) -> usize
-    requires { at + length (decimal value) ≤ length out.old }
-    ensures { Put out.old at (decimal value) out.new result × (result ≤ at + 20) }
-{
-    let size = integers::magnitude(value);
-    if value < 0 {
-        let first = write_byte(out, at, b'-');
-        return write_digits(out, first, size);
+    // The digits of a number: those of its tenth, if it has more than one, then its last. The calls are at most 20 deep.
+    pub fn digits(&mut self, n: u64)
+        requires { Room self.old (length (digits n)) }
+        ensures { Wrote self.old self.new (digits n) }
+    {
+        if n < 10 {
+            return self.byte(b'0' + n as u8);
+        }
+        self.digits(n / 10);
+        self.byte(b'0' + (n % 10) as u8);
     }
-    write_digits(out, at, size)
-}
 
-// A number, and the comma after it.
-pub fn write_field(out: &mut [u8], at: usize, value: i64) -> usize
-    requires { at + length (field value) ≤ length out.old }
-    ensures { Put out.old at (field value) out.new result × (result ≤ at + 21) }
-{
-    let end = write_decimal(out, at, value);
-    write_byte(out, end, b',')
-}
+    // Every number of 64 bits has at most 20 bytes.
+    pub fn decimal(&mut self, value: i64)
+        requires { Room self.old (length (decimal value)) }
+        ensures text { Wrote self.old self.new (decimal value) }
+        ensures short { self.new.end ≤ self.old.end + 20 }
+    {
+        if value < 0 {
+            self.byte(b'-');
+        }
+        self.digits(value.unsigned_abs());
+    }
 
-pub fn write_line_end(out: &mut [u8], at: usize) -> usize
-    requires { at + length line_end ≤ length out.old }
-    ensures { Put out.old at line_end out.new result }
-{
-    let end = write_byte(out, at, b'\r');
-    write_byte(out, end, b'\n')
+    // A number, and the comma after it.
+    pub fn field(&mut self, value: i64)
+        requires { Room self.old (length (field value)) }
+        ensures text { Wrote self.old self.new (field value) }
+        ensures short { self.new.end ≤ self.old.end + 21 }
+    {
+        self.decimal(value);
+        self.byte(b',');
+    }
+
+    #[tactic(auto, unfolding(crate::specs::Bytes::line_end))]
+    pub fn line_end(&mut self)
+        requires { Room self.old (length line_end) }
+        ensures { Wrote self.old self.new line_end }
+    {
+        self.bytes(b"\r\n");
+    }
 }
 
 // ---- how long a number's text is
 
+// (No index is counted here: what is left of the number is, as it loses its last digit in each turn.)
 pub fn digit_count(n: u64) -> usize
     ensures { (result ≡ length (digits n)) × (result ≤ 20) }
 {
@@ -84,6 +91,6 @@ pub fn digit_count(n: u64) -> usize
 pub fn decimal_length(value: i64) -> usize
     ensures { (result ≡ length (decimal value)) × (result ≤ 20) }
 {
-    let count = digit_count(integers::magnitude(value));
+    let count = digit_count(value.unsigned_abs());
     if value < 0 { count + 1 } else { count }
 }
