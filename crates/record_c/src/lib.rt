@@ -2,22 +2,21 @@
 
 #![tactic(auto)]
 
-ghost use Rattle.std.specs.Prelude.{◌≡◌, pos};
-ghost use Rattle.integers.specs.Lists.{bit};
+ghost use Rattle.std.specs.Prelude.{◌≡◌};
 ghost use Rattle.record_c.specs.Records.{zone_for_c, day_for_c, mark_fits, users_of, zone_of, day_of};
 
 use rules::{Day, ZoneDay};
 
 // Of one zone: the hours done, and whether it is closed, 0 or 1.
 #[repr(C)]
-#[derive(Clone, Copy)]
+#[derive(Clone, Copy, Default)]
 pub struct ZoneDayC {
     pub hours: i64,
     pub closed: i64,
 }
 
 #[repr(C)]
-#[derive(Clone, Copy)]
+#[derive(Clone, Copy, Default)]
 pub struct DayC {
     pub users: i64,
     pub length: i64,
@@ -27,67 +26,79 @@ pub struct DayC {
 
 // ---- a record that a call answers
 
-fn mark(closed: bool) -> i64
-    ensures { result ≡ pos (bit closed) }
-{
-    if closed { 1 } else { 0 }
-}
+impl From<ZoneDay> for ZoneDayC {
+    ghost from_gives = { λ zone_day for_c. for_c ≡ zone_for_c zone_day };
 
-fn zone_for_c(zone_day: ZoneDay) -> ZoneDayC
-    ensures { result ≡ zone_for_c zone_day }
-{
-    ZoneDayC {
-        hours: zone_day.hours,
-        closed: mark(zone_day.closed),
+    #[tactic(auto, unfolding(crate::specs::Records::zone_for_c))]
+    fn from(zone_day: ZoneDay) -> ZoneDayC {
+        ZoneDayC {
+            hours: zone_day.hours,
+            closed: i64::from(zone_day.closed),
+        }
     }
 }
 
-pub fn day_for_c(day: Day) -> DayC
-    ensures { result ≡ day_for_c day }
-{
-    DayC {
-        users: day.users,
-        length: day.length,
-        h: zone_for_c(day.h),
-        l: zone_for_c(day.l),
+impl From<Day> for DayC {
+    ghost from_gives = { λ day for_c. for_c ≡ day_for_c day };
+
+    #[tactic(auto, unfolding(crate::specs::Records::day_for_c))]
+    fn from(day: Day) -> DayC {
+        DayC {
+            users: day.users,
+            length: day.length,
+            h: day.h.into(),
+            l: day.l.into(),
+        }
     }
 }
 
 // ---- a record that a caller gives
 
-fn mark_fits(zone_day: ZoneDayC) -> bool
-    ensures { result ≡ mark_fits zone_day }
-{
-    integers::within(0, 1, zone_day.closed)
-}
-
-// No user where a mark does not fit, so that the calls turn the record away by 2.
-fn users_of(day: DayC) -> i64
-    ensures { result ≡ users_of day }
-{
-    if integers::both(mark_fits(day.h), mark_fits(day.l)) {
-        day.users
-    } else {
-        0
+impl ZoneDayC {
+    #[tactic(auto, unfolding(crate::specs::Records::mark_fits))]
+    fn mark_fits(self) -> bool
+        ensures { result ≡ mark_fits self }
+    {
+        0 <= self.closed && self.closed <= 1
     }
 }
 
-fn zone_of(zone_day: ZoneDayC) -> ZoneDay
-    ensures { result ≡ zone_of zone_day }
-{
-    ZoneDay {
-        hours: zone_day.hours,
-        closed: !integers::is_zero(zone_day.closed),
+impl DayC {
+    // No user where a mark does not fit, so that the calls turn the record away by 2.
+    #[tactic(auto, unfolding(crate::specs::Records::users_of, crate::specs::Records::marks_fit))]
+    fn users_told(self) -> i64
+        ensures { result ≡ users_of self }
+    {
+        if self.h.mark_fits() && self.l.mark_fits() {
+            self.users
+        } else {
+            0
+        }
     }
 }
 
-pub fn day_of(day: DayC) -> Day
-    ensures { result ≡ day_of day }
-{
-    Day {
-        users: users_of(day),
-        length: day.length,
-        h: zone_of(day.h),
-        l: zone_of(day.l),
+impl From<ZoneDayC> for ZoneDay {
+    ghost from_gives = { λ zone_day taken. taken ≡ zone_of zone_day };
+
+    #[tactic(auto, unfolding(crate::specs::Records::zone_of))]
+    fn from(zone_day: ZoneDayC) -> ZoneDay {
+        ZoneDay {
+            hours: zone_day.hours,
+            closed: zone_day.closed != 0,
+        }
+    }
+}
+
+impl From<DayC> for Day {
+    ghost from_gives = { λ given taken. taken ≡ day_of given };
+
+    #[tactic(auto, unfolding(crate::specs::Records::day_of))]
+    fn from(given: DayC) -> Day {
+        Day {
+            users: given.users_told(),
+            length: given.length,
+            h: given.h.into(),
+            l: given.l.into(),
+        }
     }
 }

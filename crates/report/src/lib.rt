@@ -15,6 +15,7 @@ const HEADING: [u8; 24] = *b"g,before,q,money,after\r\n";
 const REFUSED: [u8; 8] = *b"refused,";
 
 // A user's line: four fields of at most 21 bytes with their commas, a fifth of at most 20, and the line's end.
+#[tactic(auto, using(text::proofs::Decimals::field_room, text::proofs::Decimals::decimal_room), unfolding(text::specs::Bytes::line_end))]
 pub fn write_user_line(
     out: &mut [u8],
     at: usize,
@@ -60,18 +61,16 @@ pub fn write_hour(
         out.new result }
 {
     let mut at = write_bytes(out, 0, &HEADING);
-    let mut i: usize = 0;
-    while i < quantity.len() {
+    for i in 0..quantity.len() {
         at = write_user_line(
             out,
             at,
-            integers::signed(i as u64),
+            i as i64,
             before[i],
             quantity[i],
             money[i],
             after[i],
         );
-        i += 1;
     }
     at
 }

@@ -1,12 +1,8 @@
 -- Each turn writes a user's line. Assumes nothing.
-use Prim.Native.Nat.{◌+◌, ◌*◌, ◌-◌, ◌≤◌}
-use lib.ListN.{length}
+use Prim.Native.Nat.{◌+◌, ◌*◌, ◌≤◌}
 use Rattle.report.proofs.Lines.{Written}
 use Rattle.report.proofs.write_hour.Given as goal
 
 abbrev pub invariant-loop-i : goal.invariant-loop-i
 invariant-loop-i l =
-    (l.i ≤ length l.quantity) × (l.at ≤ l.initial.at + l.i * 106) × Written l.before l.quantity l.money l.after l.i l.initial.out l.initial.at l.out l.at
-
-abbrev pub decreases-loop-i : goal.decreases-loop-i
-decreases-loop-i l = length l.quantity - l.i
+    (l.at ≤ l.initial.at + l.i * 106) × Written l.before l.quantity l.money l.after l.i l.initial.out l.initial.at l.out l.at

@@ -1,32 +1,11 @@
 -- Six texts, one after the other, each at most as long as it may be. Assumes nothing.
 use native.Mathlib.Omega.{arith}
-use borrow.Author.Rules.{rules}
 use Rattle.integers.proofs.Machine.{read}
 use Rattle.report.specs.Text.{user_line}
-use Rattle.text.specs.Bytes.{line_end}
 use Rattle.text.specs.Decimals.{decimal, field}
-use Rattle.text.proofs.Decimals.{decimal_room, field_room, line_end_room}
+use Rattle.text.proofs.Decimals.{line_end_room}
 use Rattle.text.proofs.Puts.{put_then, put_read}
 use Rattle.report.proofs.write_user_line.Goals as goal
-
-pub write_field-end-requires : goal.write_field-end-requires
-write_field-end-requires c = omega (arith, field_room c.ranges.place)
-
-pub write_field-end-requires-2 : goal.write_field-end-requires-2
-write_field-end-requires-2 c = omega (arith, field_room c.ranges.before)
-
-pub write_field-end-requires-3 : goal.write_field-end-requires-3
-write_field-end-requires-3 c = omega (arith, field_room c.ranges.quantity)
-
-pub write_field-end-requires-4 : goal.write_field-end-requires-4
-write_field-end-requires-4 c = omega (arith, field_room c.ranges.money)
-
-pub write_decimal-end-requires : goal.write_decimal-end-requires
-write_decimal-end-requires c = omega (arith, decimal_room c.ranges.after)
-
-pub write_line_end-requires : goal.write_line_end-requires
-unfolding line_end
-write_line_end-requires c = search rules
 
 pub returns : goal.returns
 unfolding user_line

@@ -1,8 +1,0 @@
--- Field by field. Assumes nothing.
-use Rattle.std.proofs.Common.{rules}
-use Rattle.record_c.specs.Records.{zone_for_c}
-use Rattle.record_c.proofs.zone_for_c.Goals as goal
-
-pub returns : goal.returns
-unfolding zone_for_c
-returns c = search rules
