@@ -1,13 +1,13 @@
-// The text that the program prints, written into bytes that are lent. Each function answers where its text ends.
+// The text that the program prints, written into bytes that are lent.
 
 #![tactic(auto)]
 
-ghost use Rattle.std.specs.Prelude.{◌+◌, ◌≤◌, length};
-ghost use Rattle.text.specs.Puts.{Put};
+ghost use Rattle.std.specs.Prelude.{◌+◌, ◌≤◌};
+ghost use Rattle.text.specs.Puts.{Room, Wrote};
 ghost use Rattle.report.specs.Text.{user_line, refused_line, hour_text};
 ghost use Rattle.report.specs.Room.{HourRoom};
 
-use text::writing::{write_bytes, write_decimal, write_digits, write_field, write_line_end};
+use text::writing::Writer;
 
 // The first line, before the users' lines.
 const HEADING: [u8; 24] = *b"g,before,q,money,after\r\n";
@@ -15,62 +15,50 @@ const HEADING: [u8; 24] = *b"g,before,q,money,after\r\n";
 const REFUSED: [u8; 8] = *b"refused,";
 
 // A user's line: four fields of at most 21 bytes with their commas, a fifth of at most 20, and the line's end.
-#[tactic(auto, using(text::proofs::Decimals::field_room, text::proofs::Decimals::decimal_room), unfolding(text::specs::Bytes::line_end))]
+#[tactic(auto, using(text::proofs::Puts::wrote_long, text::proofs::Decimals::field_room, text::proofs::Decimals::decimal_room), unfolding(text::specs::Bytes::line_end))]
 pub fn write_user_line(
-    out: &mut [u8],
-    at: usize,
+    writer: &mut Writer,
     place: i64,
     before: i64,
     quantity: i64,
     money: i64,
     after: i64,
-) -> usize
-    requires { at + 106 ≤ length out.old }
-    ensures { Put out.old at (user_line place before quantity money after) out.new result
-        × (result ≤ at + 106) }
+)
+    requires { Room writer.old 106 }
+    ensures line { Wrote writer.old writer.new (user_line place before quantity money after) }
+    ensures short { writer.new.end ≤ writer.old.end + 106 }
 {
-    let end = write_field(out, at, place);
-    let end = write_field(out, end, before);
-    let end = write_field(out, end, quantity);
-    let end = write_field(out, end, money);
-    let end = write_decimal(out, end, after);
-    write_line_end(out, end)
+    writer.field(place);
+    writer.field(before);
+    writer.field(quantity);
+    writer.field(money);
+    writer.decimal(after);
+    writer.line_end();
 }
 
 // The one line of a refusal.
-pub fn write_refused(out: &mut [u8], number: u64) -> usize
-    requires { 30 ≤ length out.old }
-    ensures { Put out.old 0 (refused_line number) out.new result }
+pub fn write_refused(writer: &mut Writer, number: u64)
+    requires { Room writer.old 30 }
+    ensures { Wrote writer.old writer.new (refused_line number) }
 {
-    let end = write_bytes(out, 0, &REFUSED);
-    let end = write_digits(out, end, number);
-    write_line_end(out, end)
+    writer.bytes(&REFUSED);
+    writer.digits(number);
+    writer.line_end();
 }
 
 // The whole text of an hour that is settled.
 pub fn write_hour(
-    out: &mut [u8],
+    writer: &mut Writer,
     before: &[i64],
     quantity: &[i64],
     money: &[i64],
     after: &[i64],
-) -> usize
-    requires { HourRoom out.old before.now quantity.now money.now after.now }
-    ensures { Put out.old 0
-        (hour_text before.now quantity.now money.now after.now)
-        out.new result }
+)
+    requires { HourRoom writer.old before.now quantity.now money.now after.now }
+    ensures { Wrote writer.old writer.new (hour_text before.now quantity.now money.now after.now) }
 {
-    let mut at = write_bytes(out, 0, &HEADING);
+    writer.bytes(&HEADING);
     for i in 0..quantity.len() {
-        at = write_user_line(
-            out,
-            at,
-            i as i64,
-            before[i],
-            quantity[i],
-            money[i],
-            after[i],
-        );
+        write_user_line(writer, i as i64, before[i], quantity[i], money[i], after[i]);
     }
-    at
 }

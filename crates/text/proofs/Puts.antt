@@ -69,6 +69,10 @@ put_none out at h = record { ends = omega arith; room = omega arith; bytes = pas
 pub wrote_none : (w : Writer) → Room w 0 → Wrote w w []
 wrote_none w h = record { same = refl; put = put_none w.out.now w.end (omega (arith, h)) }
 
+-- nothing is longer or shorter than it was
+pub wrote_long : {w w₁ : Writer} {a : List ℕ} → Wrote w w₁ a → length w₁.out.now ≡ length w.out.now
+wrote_long p = put_length p.put
+
 module _ {w w₁ : Writer} {a : List ℕ} (p : Wrote w w₁ a) where
   pub wrote_then : {w₂ : Writer} {b : List ℕ} → Wrote w₁ w₂ b → Wrote w w₂ (a ++ b)
   wrote_then q = record { same = q.same ∙ p.same; put = put_then p.put q.put }

@@ -1,22 +1,30 @@
 -- Six texts, one after the other, each at most as long as it may be. Assumes nothing.
-use native.Mathlib.Omega.{arith}
+use Rattle.std.proofs.Common.{arith}
 use Rattle.integers.proofs.Machine.{read}
 use Rattle.report.specs.Text.{user_line}
 use Rattle.text.specs.Decimals.{decimal, field}
-use Rattle.text.proofs.Decimals.{line_end_room}
-use Rattle.text.proofs.Puts.{put_then, put_read}
+use Rattle.text.proofs.Decimals.{decimal_room, line_end_room}
+use Rattle.text.proofs.Puts.{wrote_long, wrote_then, wrote_read}
 use Rattle.report.proofs.write_user_line.Goals as goal
 
-pub returns : goal.returns
+pub returns-clause-line : goal.returns-clause-line
 unfolding user_line
-returns c =
+returns-clause-line c =
     let f = c.ranges in
-    let p₁ = put_read field (read f.place) c.write_field-end.ensures in
-    let p₂ = put_read field (read f.before) c.write_field-end-2.ensures in
-    let p₃ = put_read field (read f.quantity) c.write_field-end-3.ensures in
-    let p₄ = put_read field (read f.money) c.write_field-end-4.ensures in
-    let p₅ = put_read decimal (read f.after) c.write_decimal-end.ensures in
-    let p₆ = c.write_line_end.ensures in (
-      put_then (put_then (put_then (put_then (put_then p₁.0 p₂.0) p₃.0) p₄.0) p₅.0) p₆,
-      omega (arith, p₁.1, p₂.1, p₃.1, p₄.1, p₅.1, line_end_room, p₆.ends),
-    )
+    let p₁ = wrote_read field (read f.place) c.field.ensures.text in
+    let p₂ = wrote_read field (read f.before) c.field-2.ensures.text in
+    let p₃ = wrote_read field (read f.quantity) c.field-3.ensures.text in
+    let p₄ = wrote_read field (read f.money) c.field-4.ensures.text in
+    let p₅ = wrote_read decimal (read f.after) c.decimal.ensures.text in
+    wrote_then (wrote_then (wrote_then (wrote_then (wrote_then p₁ p₂) p₃) p₄) p₅) c.line_end.ensures
+
+pub returns-clause-short : goal.returns-clause-short
+returns-clause-short c = omega (arith, line_end_room, c.line_end.ensures.put.ends)
+
+pub decimal-requires : goal.decimal-requires
+decimal-requires c =
+    omega (arith, decimal_room, wrote_long c.field.ensures.text, wrote_long c.field-2.ensures.text, wrote_long c.field-3.ensures.text, wrote_long c.field-4.ensures.text)
+
+pub line_end-requires : goal.line_end-requires
+line_end-requires c =
+    omega (arith, line_end_room, wrote_long c.field.ensures.text, wrote_long c.field-2.ensures.text, wrote_long c.field-3.ensures.text, wrote_long c.field-4.ensures.text, wrote_long c.decimal.ensures.text)
