@@ -30,7 +30,7 @@ impl Writer<'_> {
         self.end = end;
     }
 
-    // The digits of a number: those of its tenth, if it has more than one, then its last. The calls are at most 20 deep.
+    // The digits of a number: those of its tenth, if it has more than one, then its last. The calls are at most 20 deep. (A recursion, since the last digit is found first and written last.)
     pub fn digits(&mut self, n: u64)
         requires { Room self.old (length (digits n)) }
         ensures { Wrote self.old self.new (digits n) }
