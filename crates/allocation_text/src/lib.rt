@@ -5,15 +5,12 @@
 
 ghost use Rattle.std.specs.Prelude.{◌≡◌, ◌++◌, ◌+◌, ◌≤◌, length};
 ghost use Rattle.text.specs.Bytes.{line_end};
-ghost use Rattle.text.specs.Puts.{Put};
+ghost use Rattle.text.specs.Puts.{Room, Wrote};
 ghost use Rattle.allocation_text.specs.Text.{letter, line_text};
 ghost use Rattle.allocation_text.specs.Steps.{start_text, amounts_text, line_most};
 
 use allocation_row::Row;
-use text::writing::{
-    decimal_length, digit_count, write_byte, write_decimal, write_digits, write_field,
-    write_line_end,
-};
+use text::writing::{Writer, decimal_length, digit_count};
 
 // The zone's letter: 0 is H, 1 is L.
 fn letter(zone: u32) -> u8
@@ -35,35 +32,32 @@ pub fn line_length(row: Row) -> usize
     numbers + amounts + 9
 }
 
-// `out` and `at` stay two parameters, as in `text::writing`: of a struct with a `&mut` no clause can say that the bytes that come back are those lent.
-fn write_start(out: &mut [u8], at: usize, row: Row) -> usize
-    requires { at + length (start_text row) ≤ length out.old }
-    ensures { Put out.old at (start_text row) out.new result }
+fn write_start(writer: &mut Writer, row: Row)
+    requires { Room writer.old (length (start_text row)) }
+    ensures { Wrote writer.old writer.new (start_text row) }
 {
-    let end = write_digits(out, at, row.hour as u64);
-    let end = write_byte(out, end, b',');
-    let end = write_byte(out, end, letter(row.zone));
-    let end = write_byte(out, end, b',');
-    let end = write_digits(out, end, row.place as u64);
-    write_byte(out, end, b',')
+    writer.digits(row.hour as u64);
+    writer.bytes(&[b',', letter(row.zone), b',']);
+    writer.digits(row.place as u64);
+    writer.byte(b',');
 }
 
-fn write_amounts(out: &mut [u8], at: usize, row: Row) -> usize
-    requires { at + length (amounts_text row) ≤ length out.old }
-    ensures { Put out.old at (amounts_text row) out.new result }
+fn write_amounts(writer: &mut Writer, row: Row)
+    requires { Room writer.old (length (amounts_text row)) }
+    ensures { Wrote writer.old writer.new (amounts_text row) }
 {
-    let end = write_field(out, at, row.entry);
-    let end = write_field(out, end, row.exit);
-    let end = write_field(out, end, row.title);
-    let end = write_decimal(out, end, row.pooling);
-    write_line_end(out, end)
+    writer.field(row.entry);
+    writer.field(row.exit);
+    writer.field(row.title);
+    writer.decimal(row.pooling);
+    writer.line_end();
 }
 
 // A row's line, with its CR LF.
-pub fn write_line(out: &mut [u8], at: usize, row: Row) -> usize
-    requires { at + length (line_text row ++ line_end) ≤ length out.old }
-    ensures { Put out.old at (line_text row ++ line_end) out.new result }
+pub fn write_line(writer: &mut Writer, row: Row)
+    requires { Room writer.old (length (line_text row ++ line_end)) }
+    ensures { Wrote writer.old writer.new (line_text row ++ line_end) }
 {
-    let end = write_start(out, at, row);
-    write_amounts(out, end, row)
+    write_start(writer, row);
+    write_amounts(writer, row);
 }

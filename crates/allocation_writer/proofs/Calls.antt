@@ -1,16 +1,15 @@
 -- What the tests of the causes leave to count on, and the call's contract at each of its ends. Assumes nothing.
-use mathlib.Core.Path.{◌≡◌, sym, ap, ◌∙◌}
+use mathlib.Core.Path.{◌≡◌, refl, sym, ap, ◌∙◌}
 use mathlib.Core.Bool.{true}
-use mathlib.Core.List.{List, [], ◌∷◌, append-nil}
+use mathlib.Core.List.{List, ◌++◌}
 use Prim.Native.Nat.{ℕ, ◌+◌, ◌≤◌}
 use native.Mathlib.Omega.{arith}
 use borrow.Author.Tests.{leb-true}
 use lib.IntN.{ℤ, pos}
-use lib.ListN.{length}
+use lib.ListN.{length, length-append}
 use Rattle.std.specs.Prelude.{Ok, Err}
 use Rattle.rules.proofs.Refusing.{unless_none, then_none, by_none, by_some}
 use Rattle.text.specs.Puts.{Put}
-use Rattle.text.proofs.Puts.{together}
 use Rattle.allocation_file.specs.File.{header}
 use Rattle.allocation_writer.specs.declared.WriteCause.{WriteCause}
 use Rattle.allocation_writer.specs.Writer.{Content, file_text, text_of, count_fit, numbers_fit}
@@ -19,12 +18,12 @@ use Rattle.allocation_writer.specs.Steps.{lines_text}
 
 module _ (w : Content) where
   -- the text is the header and the lines
-  pub text_parts : text_of w ≡ together (header ∷ lines_text w ∷ [])
+  pub text_both : text_of w ≡ header ++ lines_text w
   unfolding text_of file_text lines_text
-  text_parts = rw append-nil
+  text_both = refl
 
   pub text_long : length (text_of w) ≡ 25 + length (lines_text w)
-  text_long = rw text_parts (rw (append-nil (lines_text w)) (omega arith))
+  text_long = rw text_both (omega (arith, length-append header (lines_text w)))
 
   module _ (file : List ℕ) where
     -- no cause: each test holds

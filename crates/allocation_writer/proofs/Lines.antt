@@ -9,8 +9,9 @@ use lib.Seq.{drop-cons}
 use Rattle.integers.specs.Ranges.{natural}
 use Rattle.integers.proofs.Counts.{length-tabulate, get_or-tabulate}
 use Rattle.text.specs.Bytes.{line_end}
-use Rattle.text.specs.Puts.{Put}
-use Rattle.text.proofs.Puts.{put_length, together, Writing, writing_starts, part-fits, part_written, writing_ends}
+use Rattle.text.specs.declared.writing.Writer.{Writer}
+use Rattle.text.specs.Puts.{Room, Wrote}
+use Rattle.text.proofs.Puts.{together, Writing, writing_starts, part-fits, part_written, writing_ends}
 use Rattle.allocation_row.specs.declared.Row.{Row}
 use Rattle.allocation_text.specs.Text.{line_text}
 use Rattle.allocation_text.specs.Steps.{line_most}
@@ -73,24 +74,23 @@ module _ (w : Content) where
     added_all k = let l = rw (from_end i k) at t.is in omega (arith, l)
 
   -- a loop that writes them: it has come to i
-  pub record Lined (file₀ : List ℕ) (at : ℕ) (file : List ℕ) (end i : ℕ) : Type 0 where
-    pub long : length file ≡ length file₀
-    pub left : Writing file₀ at (lines_text w) file end (from i)
+  abbrev pub Lined : Writer → Writer → ℕ → Type 0
+  Lined v₀ v i = Writing v₀ (lines_text w) v (from i)
 
-  pub lined_none : {file : List ℕ} {at : ℕ} → at + length (lines_text w) ≤ length file → Lined file at file at 0
-  lined_none k = record { long = refl; left = writing_starts (lines_text w) (from 0) from_all k }
+  pub lined_none : {v : Writer} → Room v (length (lines_text w)) → Lined v v 0
+  lined_none k = writing_starts (lines_text w) (from 0) from_all k
 
-  module _ {file₀ : List ℕ} {at : ℕ} {file : List ℕ} {end i : ℕ} (t : Lined file₀ at file end i) where
+  module _ {v₀ v : Writer} {i : ℕ} (t : Lined v₀ v i) where
     -- the next line is left to write
-    next-left : i < users → Writing file₀ at (lines_text w) file end (line (row_at w i) ∷ from (i + 1))
-    next-left k = rw (from_next i k) at t.left
+    next-left : i < users → Writing v₀ (lines_text w) v (line (row_at w i) ∷ from (i + 1))
+    next-left k = rw (from_next i k) at t
 
     module _ {r : Row} (k : i < users) (e : r ≡ row_at w i) where
-      pub line-fits : end + length (line r) ≤ length file
+      pub line-fits : Room v (length (line r))
       line-fits = rw e (part-fits (next-left k))
 
-      pub lined_next : {file' : List ℕ} {end' : ℕ} → Put file end (line r) file' end' → Lined file₀ at file' end' (i + 1)
-      lined_next p = record { long = put_length p ∙ t.long; left = part_written (next-left k) (rw e at p) }
+      pub lined_next : {v' : Writer} → Wrote v v' (line r) → Lined v₀ v' (i + 1)
+      lined_next p = part_written (next-left k) (rw e at p)
 
-    pub lined_all : users ≤ i → Put file₀ at (lines_text w) file end
-    lined_all k = writing_ends (rw (from_end i k) at t.left)
+    pub lined_all : users ≤ i → Wrote v₀ v (lines_text w)
+    lined_all k = writing_ends (rw (from_end i k) at t)

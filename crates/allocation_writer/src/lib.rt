@@ -2,11 +2,11 @@
 
 #![tactic(auto)]
 
-ghost use Rattle.std.specs.Prelude.{◌≡◌, ◌+◌, ◌*◌, ◌≤◌, ◌<◌, length};
+ghost use Rattle.std.specs.Prelude.{◌≡◌, ◌*◌, ◌≤◌, ◌<◌, length};
 ghost use Rattle.integers.specs.Lists.{every};
 ghost use Rattle.integers.specs.Ranges.{natural};
 ghost use Rattle.rules.specs.Limits.{users_most};
-ghost use Rattle.text.specs.Puts.{Put};
+ghost use Rattle.text.specs.Puts.{Room, Wrote};
 ghost use Rattle.allocation_text.specs.Steps.{line_most};
 ghost use Rattle.allocation_writer.specs.Writer.{
   number,
@@ -28,7 +28,7 @@ use allocation_file::HEADER;
 use allocation_row::Row;
 use allocation_text::{line_length, write_line};
 use rules::{Amounts, require};
-use text::writing::{digit_count, write_bytes};
+use text::writing::{Writer, digit_count};
 
 // The causes for turning the call away, each under the papers' words.
 #[derive(Clone, Copy, PartialEq, Eq)]
@@ -166,16 +166,13 @@ impl HourFile<'_> {
         require(self.room_for(file), WriteCause::Room)
     }
 
-    fn write_lines(&self, file: &mut [u8], at: usize) -> usize
-        requires { Tested (content_of self.now)
-            × (at + length (lines_text (content_of self.now)) ≤ length file.old) }
-        ensures { Put file.old at (lines_text (content_of self.now)) file.new result }
+    fn write_lines(&self, writer: &mut Writer)
+        requires { Tested (content_of self.now) × Room writer.old (length (lines_text (content_of self.now))) }
+        ensures { Wrote writer.old writer.new (lines_text (content_of self.now)) }
     {
-        let mut end = at;
         for place in 0..integers::natural(self.users) {
-            end = write_line(file, end, self.row_at(place));
+            write_line(writer, self.row_at(place));
         }
-        end
     }
 }
 
@@ -200,7 +197,8 @@ pub fn write_hour_file(
         amounts,
     };
     hour_file.check(file)?;
-    let start = write_bytes(file, 0, &HEADER);
-    let end = hour_file.write_lines(file, start);
-    Ok(end as i64)
+    let mut writer = Writer { out: file, end: 0 };
+    writer.bytes(&HEADER);
+    hour_file.write_lines(&mut writer);
+    Ok(writer.end as i64)
 }

@@ -15,15 +15,15 @@ users c = c.natural-place-end.ensures ∙ ap natural (back _ (search rules))
 pub loop-place-init : goal.loop-place-init
 loop-place-init c = lined_none _ c.requires.1
 
-pub write_line-end-requires : goal.write_line-end-requires
-write_line-end-requires c =
-    let n = users (goal.at.write_line-end-requires c).After-natural-place-end in
+pub write_line-requires : goal.write_line-requires
+write_line-requires c =
+    let n = users (goal.at.write_line-requires c).After-natural-place-end in
     line-fits _ c.loop-place.invariant (omega (arith, n, c.loop-place-test.true)) c.row_at.ensures
 
 pub loop-place-preserved : goal.loop-place-preserved
 loop-place-preserved c =
     let n = users (goal.at.loop-place-preserved c).After-natural-place-end in
-    lined_next _ c.loop-place.invariant (omega (arith, n, c.loop-place-test.true)) c.row_at.ensures c.write_line-end.ensures
+    lined_next _ c.loop-place.invariant (omega (arith, n, c.loop-place-test.true)) c.row_at.ensures c.write_line.ensures
 
 pub returns : goal.returns
 returns c =

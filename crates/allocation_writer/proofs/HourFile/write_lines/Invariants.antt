@@ -4,4 +4,4 @@ use Rattle.allocation_writer.proofs.Lines.{Lined}
 use Rattle.allocation_writer.proofs.HourFile.write_lines.Given as goal
 
 abbrev pub invariant-loop-place : goal.invariant-loop-place
-invariant-loop-place l = Lined (content_of l.self) l.initial.file l.at l.file l.end l.place
+invariant-loop-place l = Lined (content_of l.self) l.initial.writer l.writer l.place
