@@ -1,6 +1,6 @@
 -- The tests, then the header and the lines. Assumes nothing.
 use mathlib.Core.Path.{◌≡◌, sym, ◌∙◌}
-use mathlib.Core.List.{List, [], ◌∷◌}
+use mathlib.Core.List.{List}
 use Prim.Native.Nat.{ℕ, ◌+◌, ◌^◌, ◌≤◌, ◌<◌}
 use lib.ListN.{length}
 use mir.Syntax.{w64}
@@ -12,7 +12,7 @@ use Rattle.std.proofs.Math.Facts.{to_z_pos}
 use Rattle.std.proofs.lemmas.Result.{err_from_is_err_and}
 use Rattle.integers.proofs.Machine.{read}
 use Rattle.text.proofs.Puts.{room_left, wrote_then}
-use Rattle.allocation_writer.specs.Writer.{Content, content, text_of, write_cause}
+use Rattle.allocation_writer.specs.Writer.{Content, content, write_cause}
 use Rattle.allocation_writer.specs.Steps.{Tested, lines_text}
 use Rattle.allocation_writer.proofs.Tests.{tested}
 use Rattle.allocation_writer.proofs.Calls.{text_both, text_long, accepts, refused, written}
@@ -52,7 +52,7 @@ pub write_lines-requires : goal.write_lines-requires
 write_lines-requires c =
     let d = (goal.at.write_lines-requires c).After-check in
     rw (read c.ranges.hour, read c.ranges.zone, read c.ranges.users)
-    (counted d c.in_ok-check.was, room_left c.bytes.ensures _ (room d c.in_ok-check.was))
+    (counted d c.in_ok-check.was, room_left c.bytes.ensures (length (lines_text (w d))) (omega (arith, room d c.in_ok-check.was)))
 
 pub returns : goal.returns
 returns c =
