@@ -13,6 +13,7 @@ use allocation_row::Row;
 use text::writing::{Writer, decimal_length, digit_count};
 
 // The zone's letter: 0 is H, 1 is L.
+#[tactic(auto, unfolding(crate::specs::Text::letter))]
 fn letter(zone: u32) -> u8
     ensures { result ≡ letter zone }
 {
