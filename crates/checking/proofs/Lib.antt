@@ -1,3 +1,3 @@
 -- The laws of the comparisons.
-pub mod Lists
+pub mod Equality
 pub mod Near

@@ -1,6 +1,6 @@
 -- Sums of numbers that are near. Assumes nothing.
 use mathlib.Core.Path.{◌≡◌}
-use mathlib.Core.Bool.{true, false, ◌&&◌}
+use mathlib.Core.Bool.{true}
 use mathlib.Core.List.{List}
 use Prim.Native.Nat.{ℕ, ◌≤◌, ◌<◌}
 use native.Mathlib.Omega.{arith}
@@ -10,27 +10,18 @@ use mir.Syntax.{w64}
 use mir.Val.{SFits}
 use Rattle.integers.proofs.Counts.{length-tabulate, get_or-tabulate}
 use Rattle.integers.proofs.Machine.{fits-add}
-use Rattle.integers.proofs.Tests.{and_true, range_size}
+use Rattle.integers.proofs.Tests.{range_size}
 use Rattle.checking.specs.Sums.{near, plus, added}
 
 near-size : (x : ℤ) → near x ≡ true → nat_abs x ≤ 1000000000000000
 unfolding near
 near-size x e = range_size 1000000000000000 (negsuc 999999999999999) (pos 1000000000000000) x (omega arith) (omega arith) e
 
-pub near_fits : (x y : ℤ) → (near x && near y) ≡ true → SFits w64 (x +ℤ y)
-near_fits x y e =
-    let k = and_true (near x) (near y) e in
-    let h = near-size x k.0 in
-    let l = near-size y k.1 in
+pub near_fits : (x y : ℤ) → near x ≡ true → near y ≡ true → SFits w64 (x +ℤ y)
+near_fits x y a b =
+    let h = near-size x a in
+    let l = near-size y b in
     fits-add x y (omega arith)
-
-pub plus-near : (x y : ℤ) → (near x && near y) ≡ true → plus x y ≡ x +ℤ y
-unfolding plus
-plus-near x y e = simp e
-
-pub plus_far : (x y : ℤ) → (near x && near y) ≡ false → plus x y ≡ pos 1000000000000001
-unfolding plus
-plus_far x y e = simp e
 
 module _ (xs ys : List ℤ) where
   pub added_long : length (added xs ys) ≡ length xs

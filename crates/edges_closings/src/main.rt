@@ -3,8 +3,9 @@
 
 #![tactic(auto)]
 
-use checking::{all_are, at, lent, put};
+use checking::{all_are, lent, put};
 use integers::natural;
+use printing::Line;
 use ranges::limits::{Position, Price};
 use rules::{ClosingAnswer, ClosingDone, ClosingTerms, Day, Refusal};
 use std::io;
@@ -17,7 +18,10 @@ const PRICE: i64 = Price::MOST;
 const NAMES: [u8; 130] =
     *b"closing after users |, length |, H |, closed |, L |, closed |, zone |, at | and |, table of |, lists of | and |, place | holding |";
 
-const ROWS: [[i64; 14]; 59] = [
+// A row stays a list of numbers: it is printed as it stands.
+type Row = [i64; 14];
+
+const ROWS: [Row; 59] = [
     // the usual closing; 2: users, hours and closed zones of the record
     [3, 24, 24, 0, 2, 0, 0, 20_000, 25_000, 256, 3, 3, 1, -7],
     [0, 24, 24, 0, 2, 0, 0, 20_000, 25_000, 256, 3, 3, 1, -7],
@@ -127,136 +131,103 @@ const LENT_MONEY: i64 = 72;
 
 // ---- what a row says
 
-fn day(row: &[i64]) -> Day {
-    checking::day_of(
-        at(row, 0),
-        at(row, 1),
-        at(row, 2),
-        at(row, 3),
-        at(row, 4),
-        at(row, 5),
-    )
+fn day(row: &Row) -> Day {
+    checking::day_of(row[0], row[1], row[2], row[3], row[4], row[5])
+}
+
+// ---- the lists that are lent to a call
+
+#[derive(Drop)]
+struct Lists {
+    table: [i64; 257],
+    quantity: [i64; 129],
+    money: [i64; 129],
 }
 
 // The table holds 5 and -7 in H and -3 in L, but for one place.
-fn fill(table: &mut [i64], row: &[i64]) {
-    put(table, 0, 5);
-    put(table, 1, -7);
-    put(table, 128, -3);
-    put(table, natural(at(row, 12)), at(row, 13));
+fn table(row: &Row) -> [i64; 257] {
+    let mut table = [0i64; 257];
+    put(&mut table, 0, 5);
+    put(&mut table, 1, -7);
+    put(&mut table, 128, -3);
+    put(&mut table, natural(row[12]), row[13]);
+    table
+}
+
+impl Lists {
+    fn before(row: &Row) -> Self {
+        Lists {
+            table: table(row),
+            quantity: [LENT_QUANTITY; 129],
+            money: [LENT_MONEY; 129],
+        }
+    }
 }
 
 // ---- the call, and its line
 
-fn close(row: &[i64], table: &mut [i64], quantity: &mut [i64], money: &mut [i64]) -> ClosingAnswer {
+fn close(row: &Row, lists: &mut Lists) -> ClosingAnswer {
     let terms = ClosingTerms {
-        zone: at(row, 6),
-        excess_price: at(row, 7),
-        shortfall_price: at(row, 8),
+        zone: row[6],
+        excess_price: row[7],
+        shortfall_price: row[8],
     };
     gas_day::close_zone(
         day(row),
-        lent(table, 0, natural(at(row, 9))),
+        lent(&mut lists.table, 0, natural(row[9])),
         terms,
-        lent(quantity, 0, natural(at(row, 10))),
-        lent(money, 0, natural(at(row, 11))),
+        lent(&mut lists.quantity, 0, natural(row[10])),
+        lent(&mut lists.money, 0, natural(row[11])),
     )
 }
 
 // The sums; user 0's quantity, money and place after; and what is compared.
-fn say_closed(
-    line: &mut [u8],
-    at: usize,
-    done: ClosingDone,
-    row: &[i64],
-    before: &[i64],
-    table: &[i64],
-    quantity: &[i64],
-    money: &[i64],
-) -> usize {
-    let start = places::first_place(checking::at(row, 6));
+fn say_closed(line: &mut Line, done: ClosingDone, row: &Row, lists: &Lists) {
+    let start = places::first_place(row[6]);
     let numbers = [
         done.sold,
         done.bought,
-        checking::at(quantity, 0),
-        checking::at(money, 0),
-        checking::at(table, start),
+        lists.quantity[0],
+        lists.money[0],
+        checking::at(&lists.table, start),
     ];
-    let zero = all_are(checking::part(table, start, 128), 0);
-    let kept = checking::same_outside(before, table, start, natural(checking::at(row, 0)));
-    let end = printing::say(line, at, b": closed, ");
-    let end = printing::say_day(line, end, done.day);
-    let end = printing::say_row(
-        line,
-        end,
+    let zero = all_are(checking::part(&lists.table, start, 128), 0);
+    let kept = checking::same_outside(&table(row), &lists.table, start, natural(row[0]));
+    line.say(b": closed, ");
+    line.say_day(done.day);
+    line.say_row(
         b", sold |, bought |, quantity |, money |, after |",
         &numbers,
     );
-    let end = printing::say_holds(line, end, b"part zero", zero);
-    printing::say_kept(line, end, b"other places", kept)
+    line.say_holds(b"part zero", zero);
+    line.say_kept(b"other places", kept);
 }
 
-fn say_refused(
-    line: &mut [u8],
-    at: usize,
-    refusal: Refusal,
-    row: &[i64],
-    before: &[i64],
-    table: &[i64],
-    quantity: &[i64],
-    money: &[i64],
-) -> usize {
-    let end = printing::say_refusal(line, at, refusal, day(row));
-    printing::say_lent(
-        line,
-        end,
-        checking::same_list(table, before),
-        all_are(quantity, LENT_QUANTITY),
-        all_are(money, LENT_MONEY),
-    )
-}
-
-fn say_answer(
-    line: &mut [u8],
-    at: usize,
-    answer: ClosingAnswer,
-    row: &[i64],
-    before: &[i64],
-    table: &[i64],
-    quantity: &[i64],
-    money: &[i64],
-) -> usize {
-    match answer {
-        ClosingAnswer::Refused(refusal) => say_refused(
-            line, at, refusal, row, before, table, quantity, money,
-        ),
-        ClosingAnswer::Closed(done) => say_closed(
-            line, at, done, row, before, table, quantity, money,
-        ),
-    }
-}
-
-fn run(rt: &impl Print, row: [i64; 14]) -> io::Result<()> {
-    let mut table = [0i64; 257];
-    let mut quantity = [LENT_QUANTITY; 129];
-    let mut money = [LENT_MONEY; 129];
-    fill(&mut table, &row);
-    let before = table;
-    let answer = close(&row, &mut table, &mut quantity, &mut money);
-    let mut line = [0u8; 512];
-    let end = printing::say_row(&mut line, 0, &NAMES, &row);
-    let end = say_answer(
-        &mut line, end, answer, &row, &before, &table, &quantity, &money,
+fn say_refused(line: &mut Line, refusal: Refusal, row: &Row, lists: &Lists) {
+    line.say_refusal(refusal, day(row));
+    line.say_lent(
+        lists.table == table(row),
+        all_are(&lists.quantity, LENT_QUANTITY),
+        all_are(&lists.money, LENT_MONEY),
     );
-    let end = printing::say_byte(&mut line, end, b'\n');
-    rt.write_all(printing::whole(&line, end))
+}
+
+fn run(rt: &impl Print, row: &Row) -> io::Result<()> {
+    let mut lists = Lists::before(row);
+    let answer = close(row, &mut lists);
+    let mut line = Line::new();
+    line.say_row(&NAMES, row);
+    match answer {
+        ClosingAnswer::Refused(refusal) => say_refused(&mut line, refusal, row, &lists),
+        ClosingAnswer::Closed(done) => say_closed(&mut line, done, row, &lists),
+    }
+    line.say_byte(b'\n');
+    rt.write_all(line.as_bytes())
 }
 
 fn main(rt: HostRuntime) -> io::Result<()> {
-    let mut i: usize = 0;
-    while i < 59 {
-        run(&rt, ROWS[i])?;
-        i += 1;
+    for row in &ROWS {
+        run(&rt, row)?;
     }
     Ok(())
 }

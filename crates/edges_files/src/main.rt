@@ -5,8 +5,9 @@
 #![tactic(auto)]
 
 use allocation_file::{FileAnswer, FileRead};
-use checking::{all_are, lent, rest};
-use integers::{both, magnitude, natural};
+use checking::{all_are, at, lent, rest};
+use integers::natural;
+use printing::{Line, Text};
 use std::io;
 
 // The largest number of nine digits, and the least.
@@ -18,7 +19,10 @@ const NINE: i64 = NINES / 10 + 1;
 const NAMES: [u8; 73] =
     *b"file, lines |, ended |, hour |, zone |, amounts | | | |, lists of | | | |";
 
-const ROWS: [[i64; 12]; 15] = [
+// A row stays a list of numbers: it is printed as it stands.
+type Row = [i64; 12];
+
+const ROWS: [Row; 15] = [
     [1, 1, 1, 0, 1, -2, 3, -4, 128, 128, 128, 128],
     [1, 1, 1, 0, 1, -2, 3, -4, 127, 128, 128, 128],
     [1, 1, 1, 0, 1, -2, 3, -4, 129, 128, 128, 128],
@@ -49,180 +53,135 @@ const LENT_TITLE: i64 = 83;
 
 const LENT_POOLING: i64 = 84;
 
-// ---- the file of a case, written into lent bytes: each function answers where its text ends, and what does not fit is left out
+// ---- the file of a case; what does not fit is left out
+
+type File = Text<8192>;
+
+// The amounts of a line, each with its comma before it.
+type Amounts = Text<64>;
+
+// What each line of a file says besides its place.
+#[derive(Clone, Copy)]
+struct Content<'a> {
+    hour: i64,
+    zone: i64,
+    amounts: &'a [u8],
+}
 
 // The header, without its CR LF: each line here begins with the end of the one before.
 const HEADER: [u8; 23] = *b"h,z,g,EEA,XEA,NCTTN,IPT";
 
-// The end of the line before, the hour and the zone.
-fn put_start(file: &mut [u8], end: usize, hour: i64, zone: i64) -> usize {
-    let end = printing::say(file, end, b"\r\n");
-    let end = printing::say_count(file, end, magnitude(hour));
-    let end = printing::say_byte(file, end, b',');
-    printing::say_byte(file, end, if zone == 0 { b'H' } else { b'L' })
-}
-
-// A line of an hour, a zone and a place, and after it the amounts, each with its comma before it.
-fn put_line(
-    file: &mut [u8],
-    end: usize,
-    place: usize,
-    hour: i64,
-    zone: i64,
-    amounts: &[u8],
-) -> usize {
-    let end = put_start(file, end, hour, zone);
-    let end = printing::say_byte(file, end, b',');
-    let end = printing::say_count(file, end, place as u64);
-    printing::say(file, end, amounts)
-}
-
-fn put_lines(
-    file: &mut [u8],
-    from: usize,
-    lines: usize,
-    hour: i64,
-    zone: i64,
-    amounts: &[u8],
-) -> usize {
-    let mut end = from;
-    let mut place: usize = 0;
-    while place < lines {
-        end = put_line(file, end, place, hour, zone, amounts);
-        place += 1;
-    }
-    end
+fn put_line(file: &mut File, place: usize, content: &Content) {
+    file.say(b"\r\n");
+    file.say_count(content.hour.unsigned_abs());
+    file.say(if content.zone == 0 { b",H," } else { b",L," });
+    file.say_count(place as u64);
+    file.say(content.amounts);
 }
 
 // So many lines, the last of them ended or not.
-fn put_file(
-    file: &mut [u8],
-    lines: i64,
-    ended: i64,
-    hour: i64,
-    zone: i64,
-    amounts: &[u8],
-) -> usize {
-    let end = printing::say(file, 0, &HEADER);
-    let end = put_lines(file, end, natural(lines), hour, zone, amounts);
-    if ended == 0 {
-        return end;
+fn file_of(lines: i64, ended: i64, content: &Content) -> File {
+    let mut file = File::new();
+    file.say(&HEADER);
+    for place in 0..natural(lines) {
+        put_line(&mut file, place, content);
     }
-    printing::say(file, end, b"\r\n")
+    if ended != 0 {
+        file.say(b"\r\n");
+    }
+    file
+}
+
+// ---- the lists that are lent to the call
+
+#[derive(Drop)]
+struct Lists {
+    entries: [i64; 129],
+    exits: [i64; 129],
+    titles: [i64; 129],
+    poolings: [i64; 129],
+}
+
+impl Lists {
+    fn before() -> Self {
+        Lists {
+            entries: [LENT_ENTRY; 129],
+            exits: [LENT_EXIT; 129],
+            titles: [LENT_TITLE; 129],
+            poolings: [LENT_POOLING; 129],
+        }
+    }
+
+    fn say_kept(&self, line: &mut Line) {
+        line.say_kept(b"entries", all_are(&self.entries, LENT_ENTRY));
+        line.say_kept(b"exits", all_are(&self.exits, LENT_EXIT));
+        line.say_kept(b"titles", all_are(&self.titles, LENT_TITLE));
+        line.say_kept(b"poolings", all_are(&self.poolings, LENT_POOLING));
+    }
+
+    // The places from one on are as they were.
+    fn kept_from(&self, from: usize) -> bool {
+        all_are(rest(&self.entries, from), LENT_ENTRY)
+            && all_are(rest(&self.exits, from), LENT_EXIT)
+            && all_are(rest(&self.titles, from), LENT_TITLE)
+            && all_are(rest(&self.poolings, from), LENT_POOLING)
+    }
 }
 
 // ---- the call
 
-fn say_kept(
-    line: &mut [u8],
-    at: usize,
-    entries: &[i64],
-    exits: &[i64],
-    titles: &[i64],
-    poolings: &[i64],
-) -> usize {
-    let end = printing::say_kept(line, at, b"entries", all_are(entries, LENT_ENTRY));
-    let end = printing::say_kept(line, end, b"exits", all_are(exits, LENT_EXIT));
-    let end = printing::say_kept(line, end, b"titles", all_are(titles, LENT_TITLE));
-    printing::say_kept(line, end, b"poolings", all_are(poolings, LENT_POOLING))
-}
-
 // The first line's amounts, and what is compared.
-fn say_read(
-    line: &mut [u8],
-    at: usize,
-    read: FileRead,
-    entries: &[i64],
-    exits: &[i64],
-    titles: &[i64],
-    poolings: &[i64],
-) -> usize {
-    let lines = natural(read.lines);
+fn say_read(line: &mut Line, read: FileRead, lists: &Lists) {
     let numbers = [
         read.hour,
         read.zone,
         read.lines,
-        checking::at(entries, 0),
-        checking::at(exits, 0),
-        checking::at(titles, 0),
-        checking::at(poolings, 0),
+        lists.entries[0],
+        lists.exits[0],
+        lists.titles[0],
+        lists.poolings[0],
     ];
-    let a = all_are(rest(entries, lines), LENT_ENTRY);
-    let b = all_are(rest(exits, lines), LENT_EXIT);
-    let c = all_are(rest(titles, lines), LENT_TITLE);
-    let d = all_are(rest(poolings, lines), LENT_POOLING);
-    let end = printing::say_row(
-        line,
-        at,
-        b": hour |, zone |, lines |, first | | | |",
-        &numbers,
-    );
-    printing::say_holds(line, end, b"rest kept", both(both(a, b), both(c, d)))
+    line.say_row(b": hour |, zone |, lines |, first | | | |", &numbers);
+    line.say_holds(b"rest kept", lists.kept_from(natural(read.lines)));
 }
 
-fn say_answer(
-    line: &mut [u8],
-    at: usize,
-    answer: FileAnswer,
-    entries: &[i64],
-    exits: &[i64],
-    titles: &[i64],
-    poolings: &[i64],
-) -> usize {
+fn say_answer(line: &mut Line, answer: FileAnswer, lists: &Lists) {
     match answer {
         FileAnswer::Refused(number) => {
-            let end = printing::say_refused(line, at, number);
-            say_kept(line, end, entries, exits, titles, poolings)
+            line.say_refused(number);
+            lists.say_kept(line);
         }
-        FileAnswer::Read(read) => say_read(line, at, read, entries, exits, titles, poolings),
+        FileAnswer::Read(read) => say_read(line, read, lists),
     }
 }
 
-// The file is read into lists of so many places, and the answer is said after the case, which stands in the line up to `at`.
-fn read(
-    rt: &impl Print,
-    line: &mut [u8],
-    at: usize,
-    file: &[u8],
-    places: &[i64],
-) -> io::Result<()> {
-    let mut entries = [LENT_ENTRY; 129];
-    let mut exits = [LENT_EXIT; 129];
-    let mut titles = [LENT_TITLE; 129];
-    let mut poolings = [LENT_POOLING; 129];
+// The file is read into lists of so many places, and the answer is said after the case, which stands in the line.
+fn read(rt: &impl Print, line: &mut Line, file: &[u8], places: &[i64]) -> io::Result<()> {
+    let mut lists = Lists::before();
     let answer = allocation_file::read_hour_file(
         file,
-        lent(&mut entries, 0, natural(checking::at(places, 0))),
-        lent(&mut exits, 0, natural(checking::at(places, 1))),
-        lent(&mut titles, 0, natural(checking::at(places, 2))),
-        lent(&mut poolings, 0, natural(checking::at(places, 3))),
+        lent(&mut lists.entries, 0, natural(at(places, 0))),
+        lent(&mut lists.exits, 0, natural(at(places, 1))),
+        lent(&mut lists.titles, 0, natural(at(places, 2))),
+        lent(&mut lists.poolings, 0, natural(at(places, 3))),
     );
-    let end = say_answer(line, at, answer, &entries, &exits, &titles, &poolings);
-    let end = printing::say_byte(line, end, b'\n');
-    rt.write_all(printing::whole(line, end))
+    say_answer(line, answer, &lists);
+    line.say_byte(b'\n');
+    rt.write_all(line.as_bytes())
 }
 
-fn run(rt: &impl Print, row: [i64; 12]) -> io::Result<()> {
-    let mut amounts = [0u8; 64];
-    let end = printing::say_row(&mut amounts, 0, b",|,|,|,|", rest(&row, 4));
-    let mut room = [0u8; 8192];
-    let end = put_file(
-        &mut room,
-        row[0],
-        row[1],
-        row[2],
-        row[3],
-        printing::whole(&amounts, end),
-    );
-    let mut line = [0u8; 512];
-    let said = printing::say_row(&mut line, 0, &NAMES, &row);
-    read(
-        rt,
-        &mut line,
-        said,
-        printing::whole(&room, end),
-        rest(&row, 8),
-    )
+fn run(rt: &impl Print, row: &Row) -> io::Result<()> {
+    let mut amounts = Amounts::new();
+    amounts.say_row(b",|,|,|,|", rest(row, 4));
+    let content = Content {
+        hour: row[2],
+        zone: row[3],
+        amounts: amounts.as_bytes(),
+    };
+    let file = file_of(row[0], row[1], &content);
+    let mut line = Line::new();
+    line.say_row(&NAMES, row);
+    read(rt, &mut line, file.as_bytes(), rest(row, 8))
 }
 
 // ---- amounts as they are spelled, in kWh and in MWh: the same for all four amounts of every line
@@ -232,50 +191,40 @@ const SPELLED: [u8; 132] =
 
 const SPELLINGS: usize = 20;
 
-fn put_amount(amounts: &mut [u8], at: usize, which: usize) -> usize {
-    let end = printing::say_byte(amounts, at, b',');
-    printing::say_word(amounts, end, &SPELLED, which)
-}
-
-fn put_amounts(amounts: &mut [u8], which: usize) -> usize {
-    let end = put_amount(amounts, 0, which);
-    let end = put_amount(amounts, end, which);
-    let end = put_amount(amounts, end, which);
-    put_amount(amounts, end, which)
+fn amounts_spelled(which: usize) -> Amounts {
+    let mut amounts = Amounts::new();
+    for _ in 0..4 {
+        amounts.say_byte(b',');
+        amounts.say_word(&SPELLED, which);
+    }
+    amounts
 }
 
 fn run_spelled(rt: &impl Print, lines: i64, which: usize) -> io::Result<()> {
-    let mut amounts = [0u8; 64];
-    let end = put_amounts(&mut amounts, which);
-    let mut room = [0u8; 8192];
-    let end = put_file(&mut room, lines, 1, 24, 1, printing::whole(&amounts, end));
-    let mut line = [0u8; 512];
-    let said = printing::say_row(&mut line, 0, b"file, lines |, each amount ", &[lines]);
-    let said = printing::say_word(&mut line, said, &SPELLED, which);
-    read(
-        rt,
-        &mut line,
-        said,
-        printing::whole(&room, end),
-        &[128, 128, 128, 128],
-    )
+    let amounts = amounts_spelled(which);
+    let content = Content {
+        hour: 24,
+        zone: 1,
+        amounts: amounts.as_bytes(),
+    };
+    let file = file_of(lines, 1, &content);
+    let mut line = Line::new();
+    line.say_row(b"file, lines |, each amount ", &[lines]);
+    line.say_word(&SPELLED, which);
+    read(rt, &mut line, file.as_bytes(), &[128, 128, 128, 128])
 }
 
 fn run_rows(rt: &impl Print) -> io::Result<()> {
-    let mut i: usize = 0;
-    while i < 15 {
-        run(rt, ROWS[i])?;
-        i += 1;
+    for row in &ROWS {
+        run(rt, row)?;
     }
     Ok(())
 }
 
 // One line of each spelling.
 fn run_spellings(rt: &impl Print) -> io::Result<()> {
-    let mut i: usize = 0;
-    while i < SPELLINGS {
-        run_spelled(rt, 1, i)?;
-        i += 1;
+    for which in 0..SPELLINGS {
+        run_spelled(rt, 1, which)?;
     }
     Ok(())
 }

@@ -3,8 +3,9 @@
 
 #![tactic(auto)]
 
-use checking::{all_are, all_scratch, at, first, lent, part, put, rest, sums};
+use checking::{all_are, at, first, lent, part, put, sums};
 use integers::natural;
+use printing::Line;
 use rules::{Day, HourAnswer, HourDone, HourTerms, Marks, Outcome, Refusal, Side};
 use std::io;
 
@@ -19,329 +20,271 @@ const LENT_SCRATCH: u64 = 73;
 
 // ---- the sheet
 
-// Makes the changes of a row. (Zeros, and what a row lacks, change a place that nothing reads.)
-fn change(sheet: &mut [i64], row: &[i64]) {
-    put(sheet, natural(at(row, 0)), at(row, 1));
-    put(sheet, natural(at(row, 2)), at(row, 3));
-    put(sheet, natural(at(row, 4)), at(row, 5));
-    put(sheet, natural(at(row, 6)), at(row, 7));
+#[derive(Drop)]
+struct Sheet {
+    numbers: [i64; rows::SHEET],
 }
 
-// The usual call, with the changes of a row.
-fn fill(sheet: &mut [i64], row: &[i64]) {
-    change(sheet, &rows::RECORD);
-    change(sheet, &rows::PRICES);
-    change(sheet, &rows::TERMS);
-    change(sheet, &rows::POSITIONS);
-    change(sheet, &rows::ENTRIES);
-    change(sheet, &rows::OTHERS);
-    change(sheet, row);
-}
+impl Sheet {
+    // The usual call, with the changes of a case.
+    fn of(changes: &[(usize, i64)]) -> Self {
+        let mut sheet = Sheet {
+            numbers: [0; rows::SHEET],
+        };
+        sheet.change(rows::RECORD);
+        sheet.change(rows::PRICES);
+        sheet.change(rows::TERMS);
+        sheet.change(rows::POSITIONS);
+        sheet.change(rows::ENTRIES);
+        sheet.change(rows::OTHERS);
+        sheet.change(changes);
+        sheet
+    }
 
-fn number(sheet: &[i64], kind: i64) -> i64 {
-    at(sheet, natural(kind))
-}
+    fn change(&mut self, changes: &[(usize, i64)]) {
+        for (place, number) in changes {
+            put(&mut self.numbers, *place, *number);
+        }
+    }
 
-fn list(sheet: &[i64], kind: i64, n: usize) -> &[i64] {
-    part(sheet, natural(kind), n)
-}
+    fn number(&self, kind: usize) -> i64 {
+        at(&self.numbers, kind)
+    }
 
-fn users(sheet: &[i64]) -> usize {
-    natural(number(sheet, rows::USERS))
-}
+    fn list(&self, kind: usize, n: usize) -> &[i64] {
+        part(&self.numbers, kind, n)
+    }
 
-fn day(sheet: &[i64]) -> Day {
-    checking::day_of(
-        number(sheet, rows::USERS),
-        number(sheet, rows::LENGTH),
-        number(sheet, rows::H_HOURS),
-        number(sheet, rows::H_CLOSED),
-        number(sheet, rows::L_HOURS),
-        number(sheet, rows::L_CLOSED),
-    )
-}
+    fn users(&self) -> usize {
+        natural(self.number(rows::USERS))
+    }
 
-fn terms(sheet: &[i64]) -> HourTerms {
-    HourTerms {
-        zone: number(sheet, rows::ZONE),
-        hour: number(sheet, rows::HOUR),
-        upper: number(sheet, rows::UPPER),
-        lower: number(sheet, rows::LOWER),
-        excess_price: number(sheet, rows::EXCESS_PRICE),
-        shortfall_price: number(sheet, rows::SHORTFALL_PRICE),
+    fn day(&self) -> Day {
+        checking::day_of(
+            self.number(rows::USERS),
+            self.number(rows::LENGTH),
+            self.number(rows::H_HOURS),
+            self.number(rows::H_CLOSED),
+            self.number(rows::L_HOURS),
+            self.number(rows::L_CLOSED),
+        )
+    }
+
+    fn terms(&self) -> HourTerms {
+        HourTerms {
+            zone: self.number(rows::ZONE),
+            hour: self.number(rows::HOUR),
+            upper: self.number(rows::UPPER),
+            lower: self.number(rows::LOWER),
+            excess_price: self.number(rows::EXCESS_PRICE),
+            shortfall_price: self.number(rows::SHORTFALL_PRICE),
+        }
+    }
+
+    // The places of a list, by its number among the call's lists.
+    fn size(&self, which: usize) -> usize {
+        let one = at(self.list(rows::LIST_SIZE, 7), which);
+        if one != 0 {
+            return natural(one);
+        }
+        let all = self.number(rows::LISTS_SIZE);
+        if all != 0 { natural(all) } else { self.users() }
+    }
+
+    // What the table of the sheet holds.
+    fn table(&self) -> &[i64] {
+        self.list(rows::TABLE, 257)
     }
 }
 
-// The places of a list, by its number among the call's lists.
-fn size(sheet: &[i64], which: usize) -> usize {
-    let one = at(list(sheet, rows::LIST_SIZE, 7), which);
-    if one != 0 {
-        return natural(one);
+// ---- the lists that are lent to a call to be written
+
+#[derive(Drop)]
+struct Lists {
+    table: [i64; 257],
+    quantity: [i64; 129],
+    money: [i64; 129],
+    scratch: [u64; 129],
+}
+
+impl Lists {
+    fn before(sheet: &Sheet) -> Self {
+        let mut table = [0i64; 257];
+        for (place, number) in table.iter_mut().zip(sheet.table()) {
+            *place = *number;
+        }
+        Lists {
+            table,
+            quantity: [LENT_QUANTITY; 129],
+            money: [LENT_MONEY; 129],
+            scratch: [LENT_SCRATCH; 129],
+        }
     }
-    let all = number(sheet, rows::LISTS_SIZE);
-    if all != 0 { natural(all) } else { users(sheet) }
 }
 
 // ---- the call
 
-fn settle(
-    sheet: &[i64],
-    table: &mut [i64],
-    quantity: &mut [i64],
-    money: &mut [i64],
-    scratch: &mut [u64],
-) -> HourAnswer {
+fn settle(sheet: &Sheet, lists: &mut Lists) -> HourAnswer {
     gas_day::settle_hour(
-        day(sheet),
-        lent(table, 0, natural(number(sheet, rows::TABLE_SIZE))),
-        terms(sheet),
-        list(sheet, rows::ENTRY, size(sheet, 0)),
-        list(sheet, rows::EXIT, size(sheet, 1)),
-        list(sheet, rows::TITLE, size(sheet, 2)),
-        list(sheet, rows::POOLING, size(sheet, 3)),
-        lent(quantity, 0, size(sheet, 4)),
-        lent(money, 0, size(sheet, 5)),
-        checking::lent_scratch(scratch, size(sheet, 6)),
+        sheet.day(),
+        lent(&mut lists.table, 0, natural(sheet.number(rows::TABLE_SIZE))),
+        sheet.terms(),
+        sheet.list(rows::ENTRY, sheet.size(0)),
+        sheet.list(rows::EXIT, sheet.size(1)),
+        sheet.list(rows::TITLE, sheet.size(2)),
+        sheet.list(rows::POOLING, sheet.size(3)),
+        lent(&mut lists.quantity, 0, sheet.size(4)),
+        lent(&mut lists.money, 0, sheet.size(5)),
+        lent(&mut lists.scratch, 0, sheet.size(6)),
     )
 }
 
 // ---- the line
 
-fn say_side(line: &mut [u8], at: usize, side: Side) -> usize {
+fn say_side(line: &mut Line, side: Side) {
     match side {
         Side::Excess(total) => {
-            let end = printing::say(line, at, b", excess ");
-            printing::say_number(line, end, total)
+            line.say(b", excess ");
+            line.say_number(total);
         }
         Side::Shortfall(total) => {
-            let end = printing::say(line, at, b", shortfall ");
-            printing::say_number(line, end, total)
+            line.say(b", shortfall ");
+            line.say_number(total);
         }
     }
 }
 
-fn say_marks(line: &mut [u8], at: usize, marks: Marks) -> usize {
-    let end = printing::say(line, at, b" by ");
-    let end = printing::say_count(line, end, marks.number);
-    let end = printing::say(line, end, b" marked ");
-    let end = printing::say_count(line, end, marks.first);
-    let end = printing::say_byte(line, end, b' ');
-    printing::say_count(line, end, marks.second)
+fn say_marks(line: &mut Line, marks: Marks) {
+    line.say(b" by ");
+    line.say_count(marks.number);
+    line.say(b" marked ");
+    line.say_count(marks.first);
+    line.say_byte(b' ');
+    line.say_count(marks.second);
 }
 
-fn say_outcome(line: &mut [u8], at: usize, outcome: Outcome) -> usize {
+fn say_outcome(line: &mut Line, outcome: Outcome) {
     match outcome {
-        Outcome::Within => printing::say(line, at, b", within"),
+        Outcome::Within => line.say(b", within"),
         Outcome::Settled(side, marks) => {
-            let end = say_side(line, at, side);
-            say_marks(line, end, marks)
+            say_side(line, side);
+            say_marks(line, marks);
         }
     }
-}
-
-fn say_done(line: &mut [u8], at: usize, done: HourDone) -> usize {
-    let end = printing::say(line, at, b": done, ");
-    let end = printing::say_day(line, end, done.day);
-    let outcome = done.outcome;
-    say_outcome(line, end, outcome)
 }
 
 // For each user the place before and the four amounts add up to the quantity and the place after.
-fn conserved(sheet: &[i64], before: &[i64], quantity: &[i64], after: &[i64]) -> bool {
+fn conserved(sheet: &Sheet, before: &[i64], quantity: &[i64], after: &[i64]) -> bool {
     let mut given = [0i64; 128];
     let mut left = [0i64; 128];
     sums::add(&mut given, before);
-    sums::add(&mut given, list(sheet, rows::ENTRY, before.len()));
-    sums::add(&mut given, list(sheet, rows::EXIT, before.len()));
-    sums::add(&mut given, list(sheet, rows::TITLE, before.len()));
-    sums::add(&mut given, list(sheet, rows::POOLING, before.len()));
+    sums::add(&mut given, sheet.list(rows::ENTRY, before.len()));
+    sums::add(&mut given, sheet.list(rows::EXIT, before.len()));
+    sums::add(&mut given, sheet.list(rows::TITLE, before.len()));
+    sums::add(&mut given, sheet.list(rows::POOLING, before.len()));
     sums::add(&mut left, quantity);
     sums::add(&mut left, after);
     sums::balanced(&given, &left)
 }
 
 // User 0's quantity, money and place after; and what is compared.
-fn say_lists(
-    line: &mut [u8],
-    at: usize,
-    sheet: &[i64],
-    table: &[i64],
-    quantity: &[i64],
-    money: &[i64],
-) -> usize {
-    let start = places::first_place(number(sheet, rows::ZONE));
-    let n = users(sheet);
-    let numbers = [
-        checking::at(quantity, 0),
-        checking::at(money, 0),
-        checking::at(table, start),
-    ];
-    let before = list(sheet, rows::TABLE, 257);
+fn say_lists(line: &mut Line, sheet: &Sheet, lists: &Lists) {
+    let start = places::first_place(sheet.number(rows::ZONE));
+    let n = sheet.users();
+    let numbers = [lists.quantity[0], lists.money[0], at(&lists.table, start)];
     let kept = conserved(
         sheet,
-        part(before, start, n),
-        part(quantity, 0, n),
-        part(table, start, n),
+        part(sheet.table(), start, n),
+        first(&lists.quantity, n),
+        part(&lists.table, start, n),
     );
-    let end = printing::say_row(line, at, b", quantity |, money |, after |", &numbers);
-    let end = printing::say_holds(line, end, b"conserved", kept);
-    printing::say_kept(
-        line,
-        end,
+    line.say_row(b", quantity |, money |, after |", &numbers);
+    line.say_holds(b"conserved", kept);
+    line.say_kept(
         b"other places",
-        checking::same_outside(before, table, start, n),
-    )
-}
-
-fn say_refused(
-    line: &mut [u8],
-    at: usize,
-    refusal: Refusal,
-    sheet: &[i64],
-    table: &[i64],
-    quantity: &[i64],
-    money: &[i64],
-    scratch: &[u64],
-) -> usize {
-    let end = printing::say_refusal(line, at, refusal, day(sheet));
-    let end = printing::say_lent(
-        line,
-        end,
-        checking::same_list(table, list(sheet, rows::TABLE, 257)),
-        all_are(quantity, LENT_QUANTITY),
-        all_are(money, LENT_MONEY),
+        checking::same_outside(sheet.table(), &lists.table, start, n),
     );
-    printing::say_kept(line, end, b"scratch", all_scratch(scratch, LENT_SCRATCH))
 }
 
-fn say_answer(
-    line: &mut [u8],
-    at: usize,
-    answer: HourAnswer,
-    sheet: &[i64],
-    table: &[i64],
-    quantity: &[i64],
-    money: &[i64],
-    scratch: &[u64],
-) -> usize {
-    match answer {
-        HourAnswer::Refused(refusal) => say_refused(
-            line, at, refusal, sheet, table, quantity, money, scratch,
-        ),
-        HourAnswer::Done(done) => {
-            let end = say_done(line, at, done);
-            let end = say_lists(line, end, sheet, table, quantity, money);
-            let settled = checking::first_scratch(scratch, users(sheet));
-            printing::say_holds(line, end, b"scratch zero", all_scratch(settled, 0))
-        }
-    }
+fn say_done(line: &mut Line, done: HourDone, sheet: &Sheet, lists: &Lists) {
+    line.say(b": done, ");
+    line.say_day(done.day);
+    say_outcome(line, done.outcome);
+    say_lists(line, sheet, lists);
+    let settled = first(&lists.scratch, sheet.users());
+    line.say_holds(b"scratch zero", all_are(settled, 0));
+}
+
+fn say_refused(line: &mut Line, refusal: Refusal, sheet: &Sheet, lists: &Lists) {
+    line.say_refusal(refusal, sheet.day());
+    line.say_lent(
+        lists.table.as_slice() == sheet.table(),
+        all_are(&lists.quantity, LENT_QUANTITY),
+        all_are(&lists.money, LENT_MONEY),
+    );
+    line.say_kept(b"scratch", all_are(&lists.scratch, LENT_SCRATCH));
 }
 
 // ---- the cases
 
-fn say_place(line: &mut [u8], at: usize, place: usize) -> usize {
-    if 4500 <= place {
-        let end = printing::say(line, at, b" at ");
-        return printing::say_count(line, end, (place % 300) as u64);
+// A change: the kind, the number, and the place if the kind has several.
+fn say_change(line: &mut Line, place: usize, number: i64) {
+    line.say_word(&rows::KINDS, place / 300);
+    line.say_number(number);
+    if rows::LIST_SIZE <= place {
+        line.say(b" at ");
+        line.say_count((place % 300) as u64);
     }
-    at
 }
 
-// The first change of a row: the kind, the number, and the place if the kind has several.
-fn say_change(line: &mut [u8], at: usize, row: &[i64]) -> usize {
-    let place = natural(checking::at(row, 0));
-    if place == 0 {
-        return at;
+fn say_changes(line: &mut Line, changes: &[(usize, i64)]) {
+    line.say(b"hour");
+    for (place, number) in changes {
+        say_change(line, *place, *number);
     }
-    let end = printing::say_word(line, at, &rows::KINDS, place / 300);
-    let end = printing::say_number(line, end, checking::at(row, 1));
-    say_place(line, end, place)
 }
 
-fn say_changes(line: &mut [u8], at: usize, row: &[i64]) -> usize {
-    let end = printing::say(line, at, b"hour");
-    let end = say_change(line, end, row);
-    let end = say_change(line, end, rest(row, 2));
-    let end = say_change(line, end, rest(row, 4));
-    say_change(line, end, rest(row, 6))
-}
-
-// Calls with the table of a second sheet, and says what came back.
-fn run(line: &mut [u8], at: usize, sheet: &[i64], table: &mut [i64]) -> usize {
-    let mut quantity = [LENT_QUANTITY; 129];
-    let mut money = [LENT_MONEY; 129];
-    let mut scratch = [LENT_SCRATCH; 129];
-    let answer = settle(sheet, table, &mut quantity, &mut money, &mut scratch);
-    say_answer(line, at, answer, sheet, table, &quantity, &money, &scratch)
-}
-
-fn hour(rt: &impl Print, row: [i64; 8]) -> io::Result<()> {
-    let mut sheet = [0i64; rows::SHEET];
-    fill(&mut sheet, &row);
-    let mut other = sheet;
-    let mut line = [0u8; 512];
-    let end = say_changes(&mut line, 0, &row);
-    let end = run(
-        &mut line,
-        end,
-        &sheet,
-        lent(&mut other, natural(rows::TABLE), 257),
-    );
-    let end = printing::say_byte(&mut line, end, b'\n');
-    rt.write_all(printing::whole(&line, end))
+fn hour(rt: &impl Print, changes: &[(usize, i64)]) -> io::Result<()> {
+    let sheet = Sheet::of(changes);
+    let mut lists = Lists::before(&sheet);
+    let answer = settle(&sheet, &mut lists);
+    let mut line = Line::new();
+    say_changes(&mut line, changes);
+    match answer {
+        HourAnswer::Refused(refusal) => say_refused(&mut line, refusal, &sheet, &lists),
+        HourAnswer::Done(done) => say_done(&mut line, done, &sheet, &lists),
+    }
+    line.say_byte(b'\n');
+    rt.write_all(line.as_bytes())
 }
 
 // The usual call with one change, by each of the numbers.
-fn each(rt: &impl Print, kind: i64, numbers: &[i64]) -> io::Result<()> {
-    let mut k: usize = 0;
-    while k < numbers.len() {
-        hour(rt, [kind, numbers[k], 0, 0, 0, 0, 0, 0])?;
-        k += 1;
+fn each(rt: &impl Print, kind: usize, numbers: &[i64]) -> io::Result<()> {
+    for number in numbers {
+        hour(rt, &[(kind, *number)])?;
     }
     Ok(())
-}
-
-fn alone(rt: &impl Print, row: [i64; 7]) -> io::Result<()> {
-    each(rt, at(&row, 0), first(rest(&row, 2), natural(at(&row, 1))))
 }
 
 fn hours_alone(rt: &impl Print) -> io::Result<()> {
-    let mut i: usize = 0;
-    while i < 43 {
-        alone(rt, rows::ALONE[i])?;
-        i += 1;
+    for (kind, numbers) in rows::ALONE {
+        each(rt, kind, numbers)?;
     }
     Ok(())
 }
 
-fn together(i: usize) -> [i64; 8] {
-    if i < 37 {
-        rows::EARLY[i]
-    } else {
-        rows::LATE[(i - 37) % 30]
-    }
-}
-
-fn hours_together(rt: &impl Print) -> io::Result<()> {
-    let mut i: usize = 0;
-    while i < 67 {
-        hour(rt, together(i))?;
-        i += 1;
-    }
-    Ok(())
-}
-
-fn hours_by_length(rt: &impl Print) -> io::Result<()> {
-    let mut i: usize = 0;
-    while i < 38 {
-        hour(rt, rows::LENGTHS[i])?;
-        i += 1;
+fn hours_together(rt: &impl Print, cases: &[rows::Changes]) -> io::Result<()> {
+    for changes in cases {
+        hour(rt, changes)?;
     }
     Ok(())
 }
 
 fn main(rt: HostRuntime) -> io::Result<()> {
+    // the usual hour
+    hour(&rt, &[])?;
     hours_alone(&rt)?;
-    hours_together(&rt)?;
-    hours_by_length(&rt)
+    hours_together(&rt, &rows::EARLY)?;
+    hours_together(&rt, &rows::LATE)?;
+    hours_together(&rt, &rows::LENGTHS)
 }

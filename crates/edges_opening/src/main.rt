@@ -5,6 +5,7 @@
 
 use checking::{all_are, first, lent};
 use integers::natural;
+use printing::Line;
 use rules::{OpenAnswer, ThresholdsAnswer};
 use std::io;
 
@@ -40,16 +41,16 @@ const ZONES: [i64; 4] = [0, 1, 2, -1];
 // What the table holds before a call.
 const LENT: i64 = 77;
 
-fn say_opened(line: &mut [u8], at: usize, answer: OpenAnswer, table: &[i64]) -> usize {
+fn say_opened(line: &mut Line, answer: OpenAnswer, table: &[i64]) {
     match answer {
         OpenAnswer::Refused(number) => {
-            let end = printing::say_refused(line, at, number);
-            printing::say_kept(line, end, b"table", all_are(table, LENT))
+            line.say_refused(number);
+            line.say_kept(b"table", all_are(table, LENT));
         }
         OpenAnswer::Opened(day) => {
-            let end = printing::say(line, at, b": opened, ");
-            let end = printing::say_day(line, end, day);
-            printing::say_holds(line, end, b"table zero", all_are(first(table, 256), 0))
+            line.say(b": opened, ");
+            line.say_day(day);
+            line.say_holds(b"table zero", all_are(first(table, 256), 0));
         }
     }
 }
@@ -57,48 +58,65 @@ fn say_opened(line: &mut [u8], at: usize, answer: OpenAnswer, table: &[i64]) -> 
 fn open(rt: &impl Print, users: i64, length: i64, places: i64) -> io::Result<()> {
     let mut table = [LENT; 257];
     let answer = gas_day::open(users, length, lent(&mut table, 0, natural(places)));
-    let row = [users, length, places];
-    let mut line = [0u8; 512];
-    let end = printing::say_row(&mut line, 0, b"open | users, length |, table of |", &row);
-    let end = say_opened(&mut line, end, answer, &table);
-    let end = printing::say_byte(&mut line, end, b'\n');
-    rt.write_all(printing::whole(&line, end))
+    let mut line = Line::new();
+    line.say_row(
+        b"open | users, length |, table of |",
+        &[users, length, places],
+    );
+    say_opened(&mut line, answer, &table);
+    line.say_byte(b'\n');
+    rt.write_all(line.as_bytes())
 }
 
-fn openings(rt: &impl Print) -> io::Result<()> {
-    let mut i: usize = 0;
-    while i < 288 {
-        open(rt, USERS[i % 9], LENGTHS[i / 36], SIZES[i / 9 % 4])?;
-        i += 1;
+fn openings_with(rt: &impl Print, length: i64, places: i64) -> io::Result<()> {
+    for users in USERS {
+        open(rt, users, length, places)?;
     }
     Ok(())
 }
 
-fn say_thresholds(line: &mut [u8], at: usize, answer: ThresholdsAnswer) -> usize {
+fn openings_of(rt: &impl Print, length: i64) -> io::Result<()> {
+    for places in SIZES {
+        openings_with(rt, length, places)?;
+    }
+    Ok(())
+}
+
+fn openings(rt: &impl Print) -> io::Result<()> {
+    for length in LENGTHS {
+        openings_of(rt, length)?;
+    }
+    Ok(())
+}
+
+fn say_thresholds(line: &mut Line, answer: ThresholdsAnswer) {
     match answer {
-        ThresholdsAnswer::Refused(number) => printing::say_refused(line, at, number),
+        ThresholdsAnswer::Refused(number) => line.say_refused(number),
         ThresholdsAnswer::Defaults(thresholds) => {
-            let numbers = [thresholds.upper, thresholds.lower];
-            printing::say_row(line, at, b": | |", &numbers)
+            line.say_row(b": | |", &[thresholds.upper, thresholds.lower]);
         }
     }
 }
 
 fn default_thresholds(rt: &impl Print, month: i64, zone: i64) -> io::Result<()> {
     let answer = gas_day::default_thresholds(month, zone);
-    let row = [month, zone];
-    let mut line = [0u8; 512];
-    let end = printing::say_row(&mut line, 0, b"thresholds of month |, zone |", &row);
-    let end = say_thresholds(&mut line, end, answer);
-    let end = printing::say_byte(&mut line, end, b'\n');
-    rt.write_all(printing::whole(&line, end))
+    let mut line = Line::new();
+    line.say_row(b"thresholds of month |, zone |", &[month, zone]);
+    say_thresholds(&mut line, answer);
+    line.say_byte(b'\n');
+    rt.write_all(line.as_bytes())
+}
+
+fn thresholds_of(rt: &impl Print, zone: i64) -> io::Result<()> {
+    for month in MONTHS {
+        default_thresholds(rt, month, zone)?;
+    }
+    Ok(())
 }
 
 fn thresholds(rt: &impl Print) -> io::Result<()> {
-    let mut i: usize = 0;
-    while i < 68 {
-        default_thresholds(rt, MONTHS[i % 17], ZONES[i / 17])?;
-        i += 1;
+    for zone in ZONES {
+        thresholds_of(rt, zone)?;
     }
     Ok(())
 }

@@ -1,6 +1,9 @@
 // The cases of writing an hour's file, each a row of twelve numbers: hour, zone, users; the places of the four lists (entry, exit, title, pooling); the amount at the first
 // place of each list, with 1 more at each place after it; the lent bytes.
 
+// A case stays a row of numbers: it is printed as it stands.
+pub type Row = [i64; 12];
+
 // What the numbers are called.
 pub const NAMES: [u8; 64] = *b"hour |, zone |, users |, lists | | | |, amounts | | | |, bytes |";
 
@@ -17,7 +20,7 @@ const LEAST: i64 = i64::MIN;
 const CUT: i64 = 4_294_967_297;
 
 // One user, and far more bytes than the 42 of its file.
-pub const USUAL: [i64; 12] = [1, 0, 1, 1, 1, 1, 1, 1, -2, 3, -4, 8192];
+pub const USUAL: Row = [1, 0, 1, 1, 1, 1, 1, 1, -2, 3, -4, 8192];
 
 // One change of the usual row: for each column the numbers that it has in turn.
 pub const CHANGES: [[i64; 6]; 12] = [
@@ -40,7 +43,7 @@ pub const CHANGES: [[i64; 6]; 12] = [
 ];
 
 // Several changes at once.
-pub const ROWS: [[i64; 12]; 47] = [
+pub const ROWS: [Row; 47] = [
     // users with as many places: of one digit, of two and of three
     [1, 0, 2, 2, 2, 2, 2, 1, -2, 3, -4, 59],
     [1, 0, 10, 10, 10, 10, 10, 1, -2, 3, -4, 185],

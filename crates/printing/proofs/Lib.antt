@@ -1,1 +1,3 @@
-pub mod Lines
+-- The laws of what is said.
+pub mod Said
+pub mod Spelled

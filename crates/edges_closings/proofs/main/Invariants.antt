@@ -1,6 +1,0 @@
--- The measure is the number of rows left. Assumes nothing.
-use Prim.Native.Nat.{◌-◌}
-use Rattle.edges_closings.proofs.main.Given as goal
-
-abbrev pub decreases-loop-i : goal.decreases-loop-i
-decreases-loop-i l = 59 - l.i

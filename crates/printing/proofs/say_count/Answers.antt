@@ -1,8 +1,0 @@
--- The text of the number, and then that it is said. Assumes nothing.
-use native.Mathlib.Omega.{arith}
-use borrow.Author.Rules.{rules}
-use Rattle.text.proofs.Decimals.{digits-length}
-use Rattle.printing.proofs.say_count.Goals as goal
-
-pub write_digits-end-requires : goal.write_digits-end-requires
-write_digits-end-requires c = omega (arith, digits-length 19 c.args.n (search rules))

@@ -1,7 +1,0 @@
--- The text of the number, and then that it is said. Assumes nothing.
-use native.Mathlib.Omega.{arith}
-use Rattle.text.proofs.Decimals.{decimal_room}
-use Rattle.printing.proofs.say_number.Goals as goal
-
-pub write_decimal-end-requires : goal.write_decimal-end-requires
-write_decimal-end-requires c = omega (arith, decimal_room c.ranges.x)
