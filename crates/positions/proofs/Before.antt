@@ -48,6 +48,6 @@ amounts_small a fit =
 
 -- the positions before settlement, by rule 1
 pub before_is : (d : Day) (t : List ℤ) (k : HourTerms) (a : Amounts) (q m : List ℤ) (s : List ℕ) → length a.entries.now ≡ users d
-    → before d t (hour_given k a.entries.now a.exits.now a.titles.now a.poolings.now q m s) ≡ befores (part k.zone t) a
+    → before d t (hour_given k a q m s) ≡ befores (part k.zone t) a
 unfolding before befores before_at amounts_at place amounts
 before_is d t k a q m s e = rw e
