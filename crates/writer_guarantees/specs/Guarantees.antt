@@ -1,6 +1,6 @@
 -- What holds of every file that is written, by the writer's definitions and by the reader's. Statements only; the proofs are in
 -- proofs/Guarantees.antt, and the crate `certificate` asks for each. Assumes nothing.
-use Rattle.std.specs.Prelude.{ℕ, ◌+◌, ◌*◌, ◌-◌, ◌^◌, ◌≤◌, ◌≡◌, true, false, List, ◌++◌, ◌⊎◌, ◌↔◌, ℤ, pos, length, take, drop}
+use Rattle.std.specs.Prelude.{ℕ, ◌+◌, ◌*◌, ◌-◌, ◌^◌, ◌≤◌, ◌≡◌, true, false, List, ◌++◌, ◌⊎◌, ◌↔◌, ℤ, pos, length, take, drop, Ok, Err}
 use Rattle.integers.specs.Ranges.{natural}
 use Rattle.integers.specs.Lists.{AtMost}
 use Rattle.rules.specs.Limits.{users_most}
@@ -10,8 +10,8 @@ use Rattle.allocation_file.specs.File.{header, all128, ReadHour}
 use Rattle.allocation_file.specs.declared.FileRead.{FileRead}
 use Rattle.allocation_file.specs.declared.FileAnswer.{FileAnswer}
 use Rattle.allocation_file.specs.declared.FileAnswer.TheVariants.{Read}
-use Rattle.allocation_writer.specs.Writer.{Content, text_of, write_cause, WriteHour}
-use Rattle.allocation_writer.specs.declared.WriteAnswer.TheVariants.{Written}
+use Rattle.allocation_writer.specs.declared.WriteCause.{WriteCause}
+use Rattle.allocation_writer.specs.Writer.{Content, text_of, number, write_cause, WriteHour}
 
 -- ---- what is written
 
@@ -45,11 +45,13 @@ pub record Fit (w : Content) : Type 0 where
 
 -- "Every amount of up to nine digits can be written": a content is written if and only if none of the three causes exists
 abbrev pub WrittenIfFit : Type 0
-WrittenIfFit = (w : Content) (file : List ℕ) → (write_cause w file ≡ 0) ↔ (Fit w × (length (text_of w) ≤ length file))
+WrittenIfFit = (w : Content) (file : List ℕ) → (write_cause w file ≡ Ok tt) ↔ (Fit w × (length (text_of w) ≤ length file))
 
 -- a call that is refused has one of the three causes
 abbrev pub CauseOfThree : Type 0
-CauseOfThree = (w : Content) (file : List ℕ) → (write_cause w file ≡ 0) ⊎ ((18 ≤ write_cause w file) × (write_cause w file ≤ 20))
+CauseOfThree =
+    (w : Content) (file : List ℕ)
+    → (write_cause w file ≡ Ok tt) ⊎ ((k : WriteCause) × (write_cause w file ≡ Err k) × ((18 ≤ number k) × (number k ≤ 20)))
 
 -- so many bytes are enough for every file: 25 for the header, and 61 for each of at most 128 lines (the hour 9, the letter 1, the place 3, four amounts of 10, six commas,
 -- CR LF)
@@ -81,7 +83,7 @@ RoundTrip =
 -- the two calls together: what an accepted writer leaves in the first bytes, as many as it answers, is read back
 abbrev pub WrittenIsRead : Type 0
 WrittenIsRead =
-    (w : Content) (file file' : List ℕ) (n : ℤ) → WriteHour w file (Written n) file'
+    (w : Content) (file file' : List ℕ) (n : ℤ) → WriteHour w file (Ok n) file'
     → (a b c d : List ℤ) → all128 (length a) (length b) (length c) (length d) ≡ true
     → (r : FileAnswer) (a' b' c' d' : List ℤ) → ReadHour (take (natural n) file') a b c d r a' b' c' d'
     → ReadBack w a b c d r a' b' c' d'
