@@ -6,8 +6,8 @@
 use checking::{all_are, lent, put};
 use integers::natural;
 use printing::Line;
-use ranges::limits::{Position, Price};
-use rules::{ClosingAnswer, ClosingDone, ClosingTerms, Day, Refusal};
+use ranges::limits::{Kind, Position, Price};
+use rules::{ClosingDone, ClosingTerms, Day, Refusal};
 use std::io;
 
 const POSITION: i64 = Position::MOST;
@@ -166,7 +166,7 @@ impl Lists {
 
 // ---- the call, and its line
 
-fn close(row: &Row, lists: &mut Lists) -> ClosingAnswer {
+fn close(row: &Row, lists: &mut Lists) -> Result<ClosingDone, Refusal> {
     let terms = ClosingTerms {
         zone: row[6],
         excess_price: row[7],
@@ -218,8 +218,8 @@ fn run(rt: &impl Print, row: &Row) -> io::Result<()> {
     let mut line = Line::new();
     line.say_row(&NAMES, row);
     match answer {
-        ClosingAnswer::Refused(refusal) => say_refused(&mut line, refusal, row, &lists),
-        ClosingAnswer::Closed(done) => say_closed(&mut line, done, row, &lists),
+        Err(refusal) => say_refused(&mut line, refusal, row, &lists),
+        Ok(done) => say_closed(&mut line, done, row, &lists),
     }
     line.say_byte(b'\n');
     rt.write_all(line.as_bytes())

@@ -4,7 +4,8 @@
 
 #![tactic(auto)]
 
-use allocation_file::{FileAnswer, FileRead};
+use allocation_file::FileRead;
+use allocation_row::FileCause;
 use checking::{all_are, at, lent, rest};
 use integers::natural;
 use printing::{Line, Text};
@@ -145,13 +146,13 @@ fn say_read(line: &mut Line, read: FileRead, lists: &Lists) {
     line.say_holds(b"rest kept", lists.kept_from(natural(read.lines)));
 }
 
-fn say_answer(line: &mut Line, answer: FileAnswer, lists: &Lists) {
+fn say_answer(line: &mut Line, answer: Result<FileRead, FileCause>, lists: &Lists) {
     match answer {
-        FileAnswer::Refused(number) => {
-            line.say_refused(number);
+        Err(cause) => {
+            line.say_refused(cause.number());
             lists.say_kept(line);
         }
-        FileAnswer::Read(read) => say_read(line, read, lists),
+        Ok(read) => say_read(line, read, lists),
     }
 }
 

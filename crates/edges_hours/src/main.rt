@@ -6,7 +6,7 @@
 use checking::{all_are, at, first, lent, part, put, sums};
 use integers::natural;
 use printing::Line;
-use rules::{Day, HourAnswer, HourDone, HourTerms, Marks, Outcome, Refusal, Side};
+use rules::{Amounts, Day, HourDone, HourTerms, Marks, Outcome, Refusal, Side};
 use std::io;
 
 mod rows;
@@ -124,15 +124,18 @@ impl Lists {
 
 // ---- the call
 
-fn settle(sheet: &Sheet, lists: &mut Lists) -> HourAnswer {
+fn settle(sheet: &Sheet, lists: &mut Lists) -> Result<HourDone, Refusal> {
+    let amounts = Amounts {
+        entries: sheet.list(rows::ENTRY, sheet.size(0)),
+        exits: sheet.list(rows::EXIT, sheet.size(1)),
+        titles: sheet.list(rows::TITLE, sheet.size(2)),
+        poolings: sheet.list(rows::POOLING, sheet.size(3)),
+    };
     gas_day::settle_hour(
         sheet.day(),
         lent(&mut lists.table, 0, natural(sheet.number(rows::TABLE_SIZE))),
         sheet.terms(),
-        sheet.list(rows::ENTRY, sheet.size(0)),
-        sheet.list(rows::EXIT, sheet.size(1)),
-        sheet.list(rows::TITLE, sheet.size(2)),
-        sheet.list(rows::POOLING, sheet.size(3)),
+        &amounts,
         lent(&mut lists.quantity, 0, sheet.size(4)),
         lent(&mut lists.money, 0, sheet.size(5)),
         lent(&mut lists.scratch, 0, sheet.size(6)),
@@ -251,8 +254,8 @@ fn hour(rt: &impl Print, changes: &[(usize, i64)]) -> io::Result<()> {
     let mut line = Line::new();
     say_changes(&mut line, changes);
     match answer {
-        HourAnswer::Refused(refusal) => say_refused(&mut line, refusal, &sheet, &lists),
-        HourAnswer::Done(done) => say_done(&mut line, done, &sheet, &lists),
+        Err(refusal) => say_refused(&mut line, refusal, &sheet, &lists),
+        Ok(done) => say_done(&mut line, done, &sheet, &lists),
     }
     line.say_byte(b'\n');
     rt.write_all(line.as_bytes())

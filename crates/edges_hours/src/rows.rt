@@ -1,6 +1,6 @@
 // The cases of an hour. The numbers of a call stand in one list, its sheet, with 300 places for each kind of number, of which most kinds use the first alone. A case
 // changes some numbers of the usual call: a change is a kind, with a place added to it, and the number that stands there. Kinds are places and no enum, since a place is added: `TABLE + 128`.
-use ranges::limits::{Entry, Exit, Pooling, Position, Price, Threshold, Title};
+use ranges::limits::{Entry, Exit, Kind, Pooling, Position, Price, Threshold, Title};
 
 pub type Changes = &'static [(usize, i64)];
 

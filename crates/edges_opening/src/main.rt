@@ -6,7 +6,7 @@
 use checking::{all_are, first, lent};
 use integers::natural;
 use printing::Line;
-use rules::{OpenAnswer, ThresholdsAnswer};
+use rules::{Cause, Day, Thresholds};
 use std::io;
 
 const USERS: [i64; 9] = [0, 1, 2, 127, 128, 129, -1, i64::MAX, i64::MIN];
@@ -41,13 +41,13 @@ const ZONES: [i64; 4] = [0, 1, 2, -1];
 // What the table holds before a call.
 const LENT: i64 = 77;
 
-fn say_opened(line: &mut Line, answer: OpenAnswer, table: &[i64]) {
+fn say_opened(line: &mut Line, answer: Result<Day, Cause>, table: &[i64]) {
     match answer {
-        OpenAnswer::Refused(number) => {
-            line.say_refused(number);
+        Err(cause) => {
+            line.say_refused(cause.number());
             line.say_kept(b"table", all_are(table, LENT));
         }
-        OpenAnswer::Opened(day) => {
+        Ok(day) => {
             line.say(b": opened, ");
             line.say_day(day);
             line.say_holds(b"table zero", all_are(first(table, 256), 0));
@@ -89,10 +89,10 @@ fn openings(rt: &impl Print) -> io::Result<()> {
     Ok(())
 }
 
-fn say_thresholds(line: &mut Line, answer: ThresholdsAnswer) {
+fn say_thresholds(line: &mut Line, answer: Result<Thresholds, Cause>) {
     match answer {
-        ThresholdsAnswer::Refused(number) => line.say_refused(number),
-        ThresholdsAnswer::Defaults(thresholds) => {
+        Err(cause) => line.say_refused(cause.number()),
+        Ok(thresholds) => {
             line.say_row(b": | |", &[thresholds.upper, thresholds.lower]);
         }
     }

@@ -3,8 +3,9 @@
 
 #![tactic(auto)]
 
-use allocation_file::FileAnswer;
-use allocation_writer::WriteAnswer;
+use allocation_file::FileRead;
+use allocation_row::FileCause;
+use allocation_writer::WriteCause;
 use checking::{all_are, first, lent, put, rest, sums};
 use integers::natural;
 use printing::Line;
@@ -71,10 +72,10 @@ fn say_bytes(line: &mut Line, room: &[u8], from: usize) {
 }
 
 // What the reader answers, and what is compared.
-fn say_read(line: &mut Line, answer: FileAnswer, same: bool) {
+fn say_read(line: &mut Line, answer: Result<FileRead, FileCause>, same: bool) {
     match answer {
-        FileAnswer::Refused(number) => line.say_refused(number),
-        FileAnswer::Read(read) => {
+        Err(cause) => line.say_refused(cause.number()),
+        Ok(read) => {
             line.say_row(
                 b", read hour |, zone |, lines |",
                 &[read.hour, read.zone, read.lines],
@@ -103,13 +104,13 @@ fn say_back(line: &mut Line, file: &[u8], amounts: &Amounts) {
     say_read(line, answer, same);
 }
 
-fn say_answer(line: &mut Line, answer: WriteAnswer, room: &[u8], amounts: &Amounts) {
+fn say_answer(line: &mut Line, answer: Result<i64, WriteCause>, room: &[u8], amounts: &Amounts) {
     match answer {
-        WriteAnswer::Refused(number) => {
-            line.say_refused(number);
+        Err(cause) => {
+            line.say_refused(cause.number());
             say_bytes(line, room, 0);
         }
-        WriteAnswer::Written(bytes) => {
+        Ok(bytes) => {
             line.say(b": written ");
             line.say_number(bytes);
             say_bytes(line, room, natural(bytes));
@@ -120,15 +121,12 @@ fn say_answer(line: &mut Line, answer: WriteAnswer, room: &[u8], amounts: &Amoun
 
 // ---- the call
 
-fn write(row: &Row, amounts: &Amounts, room: &mut [u8]) -> WriteAnswer {
+fn write(row: &Row, amounts: &Amounts, room: &mut [u8]) -> Result<i64, WriteCause> {
     allocation_writer::write_hour_file(
         row[0],
         row[1],
         row[2],
-        amounts.entries,
-        amounts.exits,
-        amounts.titles,
-        amounts.poolings,
+        amounts,
         lent(room, 0, natural(row[11])),
     )
 }

@@ -6,6 +6,7 @@ use Rattle.text.specs.Decimals.{digits, decimal}
 use Rattle.rules.specs.declared.Day.{Day}
 use Rattle.rules.specs.declared.ZoneDay.{ZoneDay}
 use Rattle.rules.specs.declared.Refusal.{Refusal}
+use Rattle.rules.specs.Refusals.{number}
 use Rattle.checking.specs.Same.{mark_of, same_day}
 
 -- ---- forms: each bar of a form stands for a number, and parts the words of a list of words
@@ -67,4 +68,4 @@ refused_text n = bytes ": refused " ++ digits n
 
 -- its number, and whether it has the record that was given
 unfoldable pub refusal_text : Refusal → Day → List ℕ
-refusal_text r given = refused_text r.number ++ kept_text (bytes "record") (same_day r.day given)
+refusal_text r given = refused_text (number r.cause) ++ kept_text (bytes "record") (same_day r.day given)

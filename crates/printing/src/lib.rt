@@ -205,7 +205,7 @@ impl<const N: usize> Text<N> {
     pub fn say_refusal(&mut self, refusal: Refusal, given: Day)
         ensures { self.new ≡ said N self.old (refusal_text refusal given) }
     {
-        self.say_refused(refusal.number);
+        self.say_refused(refusal.cause.number());
         self.say_kept(b"record", refusal.day == given);
     }
 }
