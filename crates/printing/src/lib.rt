@@ -24,7 +24,7 @@ ghost use Rattle.printing.specs.Words.{
 
 use rules::{Day, Refusal, ZoneDay};
 use std::marker::Model;
-use text::writing::{write_decimal, write_digits};
+use text::writing::Writer;
 
 // A text of at most `N` bytes.
 #[derive(Drop)]
@@ -82,7 +82,12 @@ impl<const N: usize> Text<N> {
         ensures { self.new ≡ said N self.old (digits n) }
     {
         let mut text = [0u8; 20];
-        let end = write_digits(&mut text, 0, n);
+        let mut writer = Writer {
+            out: &mut text,
+            end: 0,
+        };
+        writer.digits(n);
+        let end = writer.end;
         self.say(&text[..end]);
     }
 
@@ -91,7 +96,12 @@ impl<const N: usize> Text<N> {
         ensures { self.new ≡ said N self.old (decimal x) }
     {
         let mut text = [0u8; 20];
-        let end = write_decimal(&mut text, 0, x);
+        let mut writer = Writer {
+            out: &mut text,
+            end: 0,
+        };
+        writer.decimal(x);
+        let end = writer.end;
         self.say(&text[..end]);
     }
 

@@ -4,5 +4,5 @@ use borrow.Author.Rules.{rules}
 use Rattle.text.proofs.Decimals.{digits-length}
 use Rattle.printing.proofs.Text.say_count.Goals as goal
 
-pub write_digits-end-requires : goal.write_digits-end-requires
-write_digits-end-requires g c = omega (arith, digits-length 19 c.args.n (search rules))
+pub digits-requires : goal.digits-requires
+digits-requires g c = omega (arith, digits-length 19 c.args.n (search rules))

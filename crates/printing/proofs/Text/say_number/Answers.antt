@@ -3,5 +3,5 @@ use native.Mathlib.Omega.{arith}
 use Rattle.text.proofs.Decimals.{decimal_room}
 use Rattle.printing.proofs.Text.say_number.Goals as goal
 
-pub write_decimal-end-requires : goal.write_decimal-end-requires
-write_decimal-end-requires g c = omega (arith, decimal_room c.ranges.x)
+pub decimal-requires : goal.decimal-requires
+decimal-requires g c = omega (arith, decimal_room c.ranges.x)
