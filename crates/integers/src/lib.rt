@@ -31,7 +31,7 @@ pub fn either(a: bool, b: bool) -> bool
 pub fn within(lo: i64, hi: i64, x: i64) -> bool
     ensures { result ≡ in_range lo hi x }
 {
-    both(at_most(lo, x), at_most(x, hi))
+    lo <= x && x <= hi
 }
 
 pub fn equal(a: i64, b: i64) -> bool
@@ -87,10 +87,11 @@ pub fn is_zero(x: i64) -> bool
 }
 
 // A count as a number of places; what is below 0 counts nothing.
+#[tactic(auto, unfolding(crate::specs::Ranges::natural))]
 pub fn natural(x: i64) -> usize
     ensures { result ≡ natural x }
 {
-    if x < 0 { 0 } else { x as usize }
+    usize::try_from(x).unwrap_or(0)
 }
 
 // Every element from `lo` to `hi`, in a pass that stops nowhere: it is compiled to vector instructions.
@@ -98,10 +99,8 @@ pub fn all_within(lo: i64, hi: i64, list: &[i64]) -> bool
     ensures { result ≡ every (in_range lo hi) list.now }
 {
     let mut fit = true;
-    let mut i: usize = 0;
-    while i < list.len() {
-        fit = both(fit, within(lo, hi, list[i]));
-        i += 1;
+    for x in list {
+        fit &= (lo <= *x) & (*x <= hi);
     }
     fit
 }
