@@ -1,15 +1,10 @@
 -- A zone's part of the record, and what a record that fits says of its hours. Assumes nothing.
-use mathlib.Core.Path.{◌≡◌, refl, sym, ap, ◌∙◌}
+use mathlib.Core.Path.{◌≡◌, refl}
 use mathlib.Core.Bool.{Bool, true, false, cond}
 use Prim.Native.Nat.{zero-le, ◌≤◌}
-use borrow.Author.Tests.{eq-eqb, ne_eqb}
-use lib.Dec.{eqb}
-use mir.Syntax.{w64}
-use mir.Val.{SFits, to_z, of_z}
-use Rattle.integers.proofs.Machine.{read}
 use lib.IntN.{ℤ, pos, nat_abs}
-use Rattle.integers.specs.Ranges.{in_range, equal, is_zero}
-use Rattle.integers.proofs.Tests.{and_true, range_size, equal_true, equal_false}
+use Rattle.integers.specs.Ranges.{in_range, is_zero}
+use Rattle.integers.proofs.Tests.{and_true, range_size}
 use Rattle.rules.specs.declared.Day.{Day}
 use Rattle.rules.specs.declared.ZoneDay.{ZoneDay}
 use Rattle.rules.specs.Limits.{length_most, users_fit, length_fit}
@@ -18,21 +13,13 @@ use Rattle.rules.specs.Causes.{zone_day_fit, day_fit}
 use Rattle.rules.proofs.Zones.{of_both}
 use Rattle.rules.proofs.Small.{length_small}
 
--- ---- equality of two numbers in the machine is that of their bits
-pub equal_bits : {x y : ℤ} → SFits w64 x → SFits w64 y → eqb (of_z w64 x) (of_z w64 y) ≡ equal x y
-equal_bits {x} {y} f g = go (equal x y) refl
-  where
-    go : (b : Bool) → equal x y ≡ b → eqb (of_z w64 x) (of_z w64 y) ≡ b
-    go true e = eq-eqb (of_z w64 x) (of_z w64 y) (ap (of_z w64) (equal_true x y e))
-    go false e = ne_eqb (of_z w64 x) (of_z w64 y) (λ q. equal_false x y e (sym (read f) ∙ ap (to_z w64) q ∙ read g))
-
+-- ---- the record with its zone's part changed is the record with another part
 abbrev with_h : Day → ZoneDay → Day
 with_h d z = record { users = d.users; length = d.length; h = z; l = d.l }
 
 abbrev with_l : Day → ZoneDay → Day
 with_l d z = record { users = d.users; length = d.length; h = d.h; l = z }
 
--- ---- the record with its zone's part changed is the record with another part
 pub with_part_of : (zone : ℤ) (f : ZoneDay → ZoneDay) (d : Day) → with_zone_day zone (λ z. f (zone_day zone d)) d ≡ with_zone_day zone f d
 unfolding with_zone_day zone_day
 with_part_of zone f d = go (is_zero zone)

@@ -1,18 +1,19 @@
 -- Signed numbers in the machine. In a function's proof a signed local is its bits, and reading it shows as `to_z w64 (of_z w64 x)`: what is read back is x where x
 -- fits, and is no larger in any case. Assumes nothing.
-use mathlib.Core.Path.{◌≡◌, refl, sym, ◌∙◌}
+use mathlib.Core.Path.{◌≡◌, refl, sym, ap, ◌∙◌}
 use mathlib.Core.Bool.{Bool, true, false}
 use Prim.Native.Nat.{ℕ, suc, ◌+◌, ◌*◌, ◌-◌, ◌^◌, ◌≤◌, ◌<◌}
 use native.Mathlib.Omega.{arith}
 use native.Mathlib.Nat.{le_refl, le_trans, lt_of_le_of_lt}
 use lib.Dec.{ltb, eqb}
-use borrow.Author.Tests.{ltb-true, ltb-false, ne_eqb}
+use borrow.Author.Tests.{ltb-true, ltb-false, eq-eqb, ne_eqb}
 use lib.IntN.{ℤ, pos, negsuc, nat_abs, ◌+ℤ◌, ◌-ℤ◌, ◌*ℤ◌}
 use lib.Signed.{mag}
 use mir.Syntax.{w64}
 use mir.Val.{SFits, to_z, of_z, sel, hbits, bits}
 use mir.ValLaws.{to_z-of_z}
-use Rattle.integers.specs.Ranges.{is_zero}
+use Rattle.integers.specs.Ranges.{equal, is_zero}
+use Rattle.integers.proofs.Tests.{equal_true, equal_false}
 use Rattle.integers.proofs.Sizes.{size-add, size-sub, size-mul-le, size_eq}
 
 -- ---- what is read back
@@ -57,6 +58,14 @@ zero_bits {x} f = go x f.sfits
     go : (x : ℤ) → mag x < 2 ^ 63 → eqb (of_z w64 x) 0 ≡ is_zero x
     go (pos n) h = refl
     go (negsuc n) h = ne_eqb (2 ^ bits w64 - suc n) 0 (λ e. omega arith) ∙ sym (ne_eqb (suc n) 0 (λ e. omega arith))
+
+-- two numbers are equal where their bits are
+pub equal_bits : {x y : ℤ} → SFits w64 x → SFits w64 y → eqb (of_z w64 x) (of_z w64 y) ≡ equal x y
+equal_bits {x} {y} f g = go (equal x y) refl
+  where
+    go : (b : Bool) → equal x y ≡ b → eqb (of_z w64 x) (of_z w64 y) ≡ b
+    go true e = eq-eqb (of_z w64 x) (of_z w64 y) (ap (of_z w64) (equal_true x y e))
+    go false e = ne_eqb (of_z w64 x) (of_z w64 y) (λ q. equal_false x y e (sym (read f) ∙ ap (to_z w64) q ∙ read g))
 
 -- ---- what fits, as rules of `omega` for a goal: `omega fitting` closes the need of one operation
 

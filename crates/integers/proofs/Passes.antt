@@ -8,7 +8,7 @@ use native.Mathlib.Nat.{not-suc-le-zero, le_of_suc-le-suc}
 use native.Mathlib.Numerals.{add-one}
 use native.Mathlib.Omega.{arith}
 use lib.IntN.{ℤ, pos, nat_abs, ◌+ℤ◌}
-use lib.ListN.{length, set, take, drop, get_or, replicate, length-replicate, get_or-replicate, length-set, drop_of_length-le, take-append-drop}
+use lib.ListN.{length, set, take, drop, get_or, length-set, drop_of_length-le, take-append-drop}
 use lib.Seq.{drop-cons, take-suc, take_all, length-take-le, set_at, get_or_at, append_snoc}
 use mir.Syntax.{w64}
 use mir.Val.{SFits, to_z, of_z}
@@ -49,14 +49,6 @@ module _ {A : Type 0} (t o : List A) where
     -- a loop that may end early, where the rest of t is the rest of o
     pub written_rest : drop i t ≡ drop i o → out ≡ t
     written_rest e = w.is ∙ rw (← e) (take-append-drop i t)
-
--- the same where every element is v
-module _ {A : Type 0} (v : A) (o : List A) {out : List A} {i : ℕ} (w : Written (replicate (length o) v) o out i) where
-  pub filled_next : i < length o → Written (replicate (length o) v) o (set out i v) (i + 1)
-  filled_next h = written_next (replicate (length o) v) o out i w (length-replicate (length o) v) v v h (sym (get_or-replicate (length o) i v v h))
-
-  pub filled_all : length o ≤ i → out ≡ replicate (length o) v
-  filled_all h = written_all (replicate (length o) v) o out i w (length-replicate (length o) v) h
 
 -- ---- a loop that tests every element of xs and stops at the first that fails: the invariant is `every p xs ≡ every p (drop i xs)`
 module _ {A : Type 0} (p : A → Bool) (xs : List A) (i : ℕ) where

@@ -2,8 +2,6 @@
 use mathlib.Core.Path.{◌≡◌, refl, sym, ◌∙◌, subst}
 use mathlib.Core.Bool.{Bool, true, false, ◌&&◌}
 use Prim.Native.Nat.{ℕ, ◌≤◌}
-use native.Mathlib.Omega.{arith}
-use borrow.Author.Tests.{ltb-true}
 use lib.Dec.{T}
 use lib.IntN.{ℤ, pos, negsuc, nat_abs}
 use lib.Signed.{lt_z, le_z, ◌≤ℤ◌, ◌<ℤ◌, non_neg}
@@ -50,11 +48,6 @@ not_negative (pos n) e = tt
 not_negative (negsuc n) e = not_both e
 
 -- a count as a natural number
-pub natural-negative : (x : ℤ) → lt_z x (pos 0) ≡ true → natural x ≡ 0
-unfolding natural
-natural-negative (pos n) e = absurd (omega (arith, ltb-true n 0 e))
-natural-negative (negsuc n) e = refl
-
 pub natural-size : (x : ℤ) → lt_z x (pos 0) ≡ false → natural x ≡ nat_abs x
 unfolding natural
 natural-size (pos n) e = refl

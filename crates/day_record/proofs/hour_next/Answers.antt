@@ -9,8 +9,8 @@ use Rattle.integers.specs.Ranges.{equal}
 use Rattle.rules.specs.Days.{hours_done}
 use Rattle.rules.specs.Limits.{length_most}
 use Rattle.rules.specs.Causes.{hour_next}
-use Rattle.integers.proofs.Machine.{back, fitting}
-use Rattle.day_record.proofs.Records.{hours_few, equal_bits}
+use Rattle.integers.proofs.Machine.{back, equal_bits, fitting}
+use Rattle.day_record.proofs.Records.{hours_few}
 use Rattle.day_record.proofs.hour_next.Goals.{After-hours_done-next}
 use Rattle.day_record.proofs.hour_next.Goals as goal
 

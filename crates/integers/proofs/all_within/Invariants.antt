@@ -1,13 +1,9 @@
 -- The elements passed so far are in range. Assumes nothing.
 use mathlib.Core.Path.{◌≡◌}
-use Prim.Native.Nat.{◌-◌, ◌≤◌}
-use lib.ListN.{length, take}
+use lib.ListN.{take}
 use Rattle.integers.specs.Ranges.{in_range}
 use Rattle.integers.specs.Lists.{every}
 use Rattle.integers.proofs.all_within.Given as goal
 
-abbrev pub invariant-loop-i : goal.invariant-loop-i
-invariant-loop-i l = (l.i ≤ length l.list) × (l.fit ≡ every (in_range l.lo l.hi) (take l.i l.list))
-
-abbrev pub decreases-loop-i : goal.decreases-loop-i
-decreases-loop-i l = length l.list - l.i
+abbrev pub invariant-loop-x : goal.invariant-loop-x
+invariant-loop-x l = l.fit ≡ every (in_range l.lo l.hi) (take l.x-index l.list)
