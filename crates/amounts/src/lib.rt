@@ -32,7 +32,7 @@ fn befores_fit(part: &[i64], amounts: &Amounts) -> bool
     // A pass that stops nowhere: `all` stops early, and takes twice the time where every user is looked at.
     for user in 0..amounts.entries.len() {
         let before = positions::before_of(part[user], amounts, user);
-        fit = fit & Position::fits(before);
+        fit &= Position::fits(before);
     }
     fit
 }
@@ -48,6 +48,7 @@ fn amounts_cause(part: &[i64], amounts: &Amounts) -> Result<(), Cause>
 }
 
 // The same over the zone's part of the table.
+#[tactic(auto, unfolding(rules::specs::Days::part, rules::specs::Days::first_place))]
 pub fn zone_amounts_cause(zone: i64, table: &[i64], amounts: &Amounts) -> Result<(), Cause>
     requires { LentTable zone table.now amounts.now }
     ensures { result ≡ amounts_cause (part zone table.now) amounts.now }
