@@ -1,23 +1,21 @@
 -- The zone's part is lent on. Assumes nothing.
-use mathlib.Core.Path.{◌≡◌, sym, ap, ◌∙◌}
+use mathlib.Core.Path.{◌≡◌}
 use mathlib.Core.Bool.{true, false}
-use Prim.Native.Nat.{ℕ}
-use lib.Dec.{eqb}
-use borrow.Author.Tests.{ne_eqb}
 use Rattle.integers.specs.Ranges.{is_zero}
-use Rattle.integers.proofs.Machine.{zero_bits}
 use Rattle.rules.proofs.Zones.{part_h, part_l}
 use Rattle.closing.proofs.Parts.{left_h, left_l}
 use borrow.Author.Rules.{rules}
+use native.Mathlib.Omega.{arith}
+use Rattle.std.proofs.lemmas.Grind.{common_steps}
 use Rattle.closing.proofs.close_table.Goals.{Then-terms-eq0, Else-terms-eq0}
 use Rattle.closing.proofs.close_table.Goals as goal
 
 -- the test of the zone, of which the machine reads the bits
 h_zone : (c : Then-terms-eq0) → is_zero c.args.terms.zone ≡ true
-h_zone c = sym (zero_bits {x = c.args.terms.zone} (record { sfits = search rules })) ∙ ap (λ (n : ℕ). eqb n 0) c.if-terms-eq0.true
+h_zone c = search rules
 
 l_zone : (c : Else-terms-eq0) → is_zero c.args.terms.zone ≡ false
-l_zone c = sym (zero_bits {x = c.args.terms.zone} (record { sfits = search rules })) ∙ ne_eqb _ 0 c.if-terms-eq0.false
+l_zone c = grind (arith, common_steps)
 
 pub close_part-requires : goal.close_part-requires
 close_part-requires c = rw (part_h _ _ (h_zone (goal.at.close_part-requires c).Then-terms-eq0)) at c.requires.lists

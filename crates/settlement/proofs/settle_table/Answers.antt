@@ -9,15 +9,17 @@ use Rattle.integers.proofs.Machine.{zero_bits}
 use Rattle.rules.proofs.Zones.{part_h, part_l}
 use Rattle.settlement.proofs.Tables.{left_h, left_l}
 use borrow.Author.Rules.{rules}
+use native.Mathlib.Omega.{arith}
+use Rattle.std.proofs.lemmas.Grind.{common_steps}
 use Rattle.settlement.proofs.settle_table.Goals.{Then-terms-eq0, Else-terms-eq0}
 use Rattle.settlement.proofs.settle_table.Goals as goal
 
 -- the test of the zone, of which the machine reads the bits
 h_zone : (c : Then-terms-eq0) → is_zero c.args.terms.zone ≡ true
-h_zone c = sym (zero_bits {x = c.args.terms.zone} (record { sfits = search rules })) ∙ ap (λ (n : ℕ). eqb n 0) c.if-terms-eq0.true
+h_zone c = search rules
 
 l_zone : (c : Else-terms-eq0) → is_zero c.args.terms.zone ≡ false
-l_zone c = sym (zero_bits {x = c.args.terms.zone} (record { sfits = search rules })) ∙ ne_eqb _ 0 c.if-terms-eq0.false
+l_zone c = grind (arith, common_steps)
 
 pub settle_zone-requires : goal.settle_zone-requires
 settle_zone-requires c = rw (part_h _ _ (h_zone (goal.at.settle_zone-requires c).Then-terms-eq0)) at c.requires.lists
