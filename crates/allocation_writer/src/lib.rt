@@ -141,7 +141,7 @@ impl HourFile<'_> {
             × (result ≤ users_most * line_most) }
     {
         let mut total: usize = 0;
-        for place in 0..integers::natural(self.users) {
+        for place in 0..self.amounts.entries.len() {
             total += line_length(self.row_at(place));
         }
         total
@@ -170,7 +170,7 @@ impl HourFile<'_> {
         requires { Tested (content_of self.now) × Room writer.old (length (lines_text (content_of self.now))) }
         ensures { Wrote writer.old writer.new (lines_text (content_of self.now)) }
     {
-        for place in 0..integers::natural(self.users) {
+        for place in 0..self.amounts.entries.len() {
             write_line(writer, self.row_at(place));
         }
     }

@@ -13,9 +13,9 @@ use Rattle.integers.specs.Ranges.{natural}
 use Rattle.std.specs.Prelude.{Ok, Err}
 use Rattle.rules.proofs.Refusing.{then_none, by_none, cause_of}
 use Rattle.allocation_row.specs.declared.Row.{Row}
+use Rattle.allocation_row.specs.declared.FileCause.TheVariants.{Lists}
 use Rattle.allocation_lines.specs.Turns.{File, refused, read}
 use Rattle.allocation_file.specs.File.{file_of, all128, outcome, answer_of, list_of, ReadHour}
-use Rattle.allocation_file.specs.declared.FileAnswer.TheVariants.{Read}
 use Rattle.allocation_writer.specs.Writer.{rows_of, file_text, text_of, number, room_for, write_cause, write_answer, written_file}
 use Rattle.allocation_writer.specs.declared.WriteCause.{WriteCause}
 use Rattle.allocation_writer.specs.declared.WriteCause.TheVariants.{Counts, Digits, Room}
@@ -96,7 +96,7 @@ written_is_read w file file' n t a b c d long r a' b' c' d' h =
 -- ---- what is read has one text without a point
 
 -- a call that has read was lent lists of 128 places
-right_lists : (b : Bool) (s : List ℕ) (h z : ℕ) (rows : List Row) → cond b (file_of s) (refused 12) ≡ read h z rows → b ≡ true
+right_lists : (b : Bool) (s : List ℕ) (h z : ℕ) (rows : List Row) → cond b (file_of s) (refused Lists) ≡ read h z rows → b ≡ true
 right_lists true s h z rows e = refl
 right_lists false s h z rows e = let q : ◌≡◌ {A = ℕ} 0 1 = cc in absurd (omega arith)
 
@@ -108,7 +108,7 @@ pub one_text : OneText
 unfolding natural text_of
 one_text s before e p a b c d f a' b' c' d' t = go (outcome s a b c d) refl t.answer t.entries t.exits t.titles t.poolings
   where
-    go : (w : File) → outcome s a b c d ≡ w → Read f ≡ answer_of w
+    go : (w : File) → outcome s a b c d ≡ w → Ok f ≡ answer_of w
         → a' ≡ list_of (λ r. r.entry) w a → b' ≡ list_of (λ r. r.exit) w b → c' ≡ list_of (λ r. r.title) w c → d' ≡ list_of (λ r. r.pooling) w d
         → WrittenAgain (content_read f a' b' c' d') s
     go (refused n) w q i j k l = let q : ◌≡◌ {A = ℕ} 0 1 = cc in absurd (omega arith)

@@ -1,15 +1,14 @@
 -- What holds of every file that is written, by the writer's definitions and by the reader's. Statements only; the proofs are in
 -- proofs/Guarantees.antt, and the crate `certificate` asks for each. Assumes nothing.
-use Rattle.std.specs.Prelude.{ℕ, ◌+◌, ◌*◌, ◌-◌, ◌^◌, ◌≤◌, ◌≡◌, true, false, List, ◌++◌, ◌⊎◌, ◌↔◌, ℤ, pos, length, take, drop, Ok, Err}
+use Rattle.std.specs.Prelude.{ℕ, ◌+◌, ◌*◌, ◌-◌, ◌^◌, ◌≤◌, ◌≡◌, true, false, List, ◌++◌, ◌⊎◌, ◌↔◌, ℤ, pos, length, take, drop, Result, Ok, Err}
 use Rattle.integers.specs.Ranges.{natural}
 use Rattle.integers.specs.Lists.{AtMost}
 use Rattle.rules.specs.Limits.{users_most}
 use Rattle.text.specs.Bytes.{line_end}
 use Rattle.text.specs.Numbers.{has_point}
+use Rattle.allocation_row.specs.declared.FileCause.{FileCause}
 use Rattle.allocation_file.specs.File.{header, all128, ReadHour}
 use Rattle.allocation_file.specs.declared.FileRead.{FileRead}
-use Rattle.allocation_file.specs.declared.FileAnswer.{FileAnswer}
-use Rattle.allocation_file.specs.declared.FileAnswer.TheVariants.{Read}
 use Rattle.allocation_writer.specs.declared.WriteCause.{WriteCause}
 use Rattle.allocation_writer.specs.Writer.{Content, text_of, number, write_cause, WriteHour}
 
@@ -64,8 +63,8 @@ EnoughBytes = (w : Content) → Fit w → length (text_of w) ≤ bytes_most
 -- ---- what is written is read
 
 -- the reader's answer r and its lists a' b' c' d' after it have the content w: "the same hour, zone and amounts"; beyond them the lists are as they were lent
-pub record ReadBack (w : Content) (a b c d : List ℤ) (r : FileAnswer) (a' b' c' d' : List ℤ) : Type 0 where
-  pub answer : r ≡ Read (record { hour = w.hour; zone = w.zone; lines = w.users })
+pub record ReadBack (w : Content) (a b c d : List ℤ) (r : Result FileRead FileCause) (a' b' c' d' : List ℤ) : Type 0 where
+  pub answer : r ≡ Ok (record { hour = w.hour; zone = w.zone; lines = w.users })
   pub entries : a' ≡ w.entry ++ drop (length w.entry) a
   pub exits : b' ≡ w.exit ++ drop (length w.exit) b
   pub titles : c' ≡ w.title ++ drop (length w.title) c
@@ -77,7 +76,7 @@ abbrev pub RoundTrip : Type 0
 RoundTrip =
     (w : Content) → Fit w
     → (a b c d : List ℤ) → all128 (length a) (length b) (length c) (length d) ≡ true
-    → (r : FileAnswer) (a' b' c' d' : List ℤ) → ReadHour (text_of w) a b c d r a' b' c' d'
+    → (r : Result FileRead FileCause) (a' b' c' d' : List ℤ) → ReadHour (text_of w) a b c d r a' b' c' d'
     → ReadBack w a b c d r a' b' c' d'
 
 -- the two calls together: what an accepted writer leaves in the first bytes, as many as it answers, is read back
@@ -85,7 +84,7 @@ abbrev pub WrittenIsRead : Type 0
 WrittenIsRead =
     (w : Content) (file file' : List ℕ) (n : ℤ) → WriteHour w file (Ok n) file'
     → (a b c d : List ℤ) → all128 (length a) (length b) (length c) (length d) ≡ true
-    → (r : FileAnswer) (a' b' c' d' : List ℤ) → ReadHour (take (natural n) file') a b c d r a' b' c' d'
+    → (r : Result FileRead FileCause) (a' b' c' d' : List ℤ) → ReadHour (take (natural n) file') a b c d r a' b' c' d'
     → ReadBack w a b c d r a' b' c' d'
 
 -- ---- what is read has one text without a point
@@ -114,5 +113,5 @@ pub record WrittenAgain (w : Content) (s : List ℕ) : Type 0 where
 abbrev pub OneText : Type 0
 OneText =
     (s before : List ℕ) → s ≡ before ++ line_end → has_point s ≡ false
-    → (a b c d : List ℤ) (f : FileRead) (a' b' c' d' : List ℤ) → ReadHour s a b c d (Read f) a' b' c' d'
+    → (a b c d : List ℤ) (f : FileRead) (a' b' c' d' : List ℤ) → ReadHour s a b c d (Ok f) a' b' c' d'
     → WrittenAgain (content_read f a' b' c' d') s
