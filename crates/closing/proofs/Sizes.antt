@@ -1,25 +1,15 @@
 -- Sizes of what is traded. Assumes nothing.
-use mathlib.Core.Path.{◌≡◌, refl}
 use mathlib.Core.Bool.{Bool, true, false, cond}
 use mathlib.Core.List.{List, [], ◌∷◌, map}
-use Prim.Native.Nat.{ℕ, zero, suc, ◌≤◌}
+use Prim.Native.Nat.{ℕ, ◌≤◌}
 use native.Mathlib.Omega.{arith}
-use borrow.Author.Tests.{lt-ltb, le-ltb}
 use native.Mathlib.Nat.{le_refl}
-use lib.IntN.{ℤ, pos, negsuc, nat_abs, neg_ℤ}
+use lib.IntN.{ℤ, pos, nat_abs, neg_ℤ}
 use lib.Signed.{lt_z}
-use Rattle.std.specs.Int.{int_max}
 use Rattle.integers.specs.Lists.{AtMost}
 use Rattle.integers.proofs.Sizes.{size-neg}
 use Rattle.integers.proofs.Sums.{at_most_cons, at_most_tail}
 use Rattle.closing.specs.Steps.{sold_of, bought_of}
-
--- a purchase's size is the negation where that is above zero
-pub bought_max : (q : ℤ) → int_max (neg_ℤ q) (pos 0) ≡ bought_of q
-unfolding bought_of
-bought_max (pos zero) = refl
-bought_max (pos (suc n)) = rw (le-ltb (suc n) 0 (omega arith))
-bought_max (negsuc n) = rw (lt-ltb 0 (suc n) (omega arith))
 
 sold_size : (q : ℤ) → nat_abs (sold_of q) ≤ nat_abs q
 unfolding sold_of

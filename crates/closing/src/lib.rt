@@ -20,6 +20,7 @@ pub struct Sums {
 // ---- one user
 
 // Rule 6.
+#[tactic(auto, unfolding(rules::specs::Market::money_of))]
 fn money_of(excess_price: i64, shortfall_price: i64, quantity: i64) -> i64
     requires { (nat_abs excess_price ≤ price_most) × (nat_abs shortfall_price ≤ price_most)
         × (nat_abs quantity ≤ position_most) }
@@ -33,6 +34,7 @@ fn money_of(excess_price: i64, shortfall_price: i64, quantity: i64) -> i64
 }
 
 // A sale's size, and 0 for a purchase.
+#[tactic(auto, unfolding(crate::specs::Steps::sold_of))]
 fn sold_of(quantity: i64) -> i64
     ensures { result ≡ sold_of quantity }
 {
@@ -40,6 +42,7 @@ fn sold_of(quantity: i64) -> i64
 }
 
 // A purchase's size, and 0 for a sale.
+#[tactic(auto, unfolding(crate::specs::Steps::bought_of))]
 fn bought_of(quantity: i64) -> i64
     requires { nat_abs quantity ≤ position_most }
     ensures { result ≡ bought_of quantity }

@@ -63,6 +63,8 @@ pub enum Imbalance {
     Shortfall(u64),
 }
 
+// The two tests are functions: written into the branches of `imbalance_of` (tried), its goals were not found, and answers would have to name each test's operands.
+
 // "Above the upper threshold"
 fn above_upper(terms: HourTerms, market: i64) -> bool
     ensures { result ≡ lt_z terms.upper market }

@@ -23,10 +23,10 @@ size-turn true x = refl
 size-turn false x = size-neg x
 
 -- the size of a causer
-pub natural-turn : (up : Bool) (x : ℤ) → natural (turn up x) ≡ size (side up 0) x
+pub turn_natural : (up : Bool) (x : ℤ) → natural (turn up x) ≡ size (side up 0) x
 unfolding turn side
-natural-turn true x = sym (size_excess 0 x)
-natural-turn false x = sym (size_shortfall 0 x)
+turn_natural true x = sym (size_excess 0 x)
+turn_natural false x = sym (size_shortfall 0 x)
 
 -- what is not below zero, as the code takes it
 pub max_natural : (x : ℤ) → nat_abs (int_max x (pos 0)) ≡ natural x
@@ -41,10 +41,10 @@ below-neg (pos (suc n)) = sym (le-ltb (suc n) 0 (omega arith))
 below-neg (negsuc n) = lt-ltb 0 (suc n) (omega arith)
 
 -- the mark of a user, by the test that the code makes
-pub caused-turn : (up : Bool) (x : ℤ) → lt_z (pos 0) (turn up x) ≡ caused (side up 0) x
+pub turn_caused : (up : Bool) (x : ℤ) → lt_z (pos 0) (turn up x) ≡ caused (side up 0) x
 unfolding turn side caused
-caused-turn true x = refl
-caused-turn false x = below-neg x
+turn_caused true x = refl
+turn_caused false x = below-neg x
 
 -- a list of bounded numbers
 pub at_most_pos : {n : ℕ} (ns : List ℕ) → ((i : ℕ) → get_or ns i 0 ≤ n) → AtMost n (map pos ns)

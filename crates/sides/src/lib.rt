@@ -16,6 +16,7 @@ use rules::{HourTerms, Marks};
 // ---- one user
 
 // A position as its side sees it: in a shortfall by negation.
+#[tactic(auto, unfolding(crate::specs::Sides::turn))]
 fn turned(up: bool, x: i64) -> i64
     requires { nat_abs x ≤ position_most }
     ensures { result ≡ turn up x }
@@ -24,6 +25,7 @@ fn turned(up: bool, x: i64) -> i64
 }
 
 // Rule 4: the size of a causer's position, and 0 for the others.
+#[tactic(auto, using(crate::proofs::Turning::max_natural, crate::proofs::Turning::turn_natural))]
 fn size_on(up: bool, position: i64) -> u64
     requires { nat_abs position ≤ position_most }
     ensures { result ≡ size (side up 0) position }
@@ -79,6 +81,7 @@ fn marks_of(up: bool, positions: &[i64]) -> Marks
 
 // ---- rules 5 and 6
 
+#[tactic(auto, using(rules::proofs::Small::terms_small), unfolding(crate::specs::Sides::price_on))]
 fn price_on(up: bool, terms: HourTerms) -> i64
     requires { terms_fit terms ≡ true }
     ensures { result ≡ price_on up terms }
