@@ -1,5 +1,6 @@
 // The words and numbers of the lines that the test programs print, said one after the other into a text that has room for so many bytes. What it has no room for is left
-// out. Nothing is printed here: a program does that, with a line that is whole.
+// out. Nothing is printed here: a program does that, with a line that is whole. (By functions and not by `Display`: the contract of each names its bytes, so that one that
+// says a thing of another is refused.)
 
 #![tactic(auto)]
 
