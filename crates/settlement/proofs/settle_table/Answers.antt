@@ -1,11 +1,7 @@
 -- The zone's part is lent on. Assumes nothing.
-use mathlib.Core.Path.{◌≡◌, sym, ap, ◌∙◌}
+use mathlib.Core.Path.{◌≡◌}
 use mathlib.Core.Bool.{true, false}
-use Prim.Native.Nat.{ℕ}
-use lib.Dec.{eqb}
-use borrow.Author.Tests.{ne_eqb}
 use Rattle.integers.specs.Ranges.{is_zero}
-use Rattle.integers.proofs.Machine.{zero_bits}
 use Rattle.rules.proofs.Zones.{part_h, part_l}
 use Rattle.settlement.proofs.Tables.{left_h, left_l}
 use borrow.Author.Rules.{rules}
