@@ -1,5 +1,5 @@
 -- What an accepted hour and an accepted closing may count on: all that the causes rule out. Assumes nothing.
-use mathlib.Core.Path.{◌≡◌, refl, sym, ap}
+use mathlib.Core.Path.{◌≡◌, sym, ap, ◌∙◌}
 use mathlib.Core.Bool.{Bool, true, false, ◌&&◌}
 use mathlib.Core.Logic.{◌⊎◌, inl, inr}
 use mathlib.Core.List.{List}
@@ -7,54 +7,56 @@ use Prim.Native.Nat.{ℕ, ◌≤◌, ◌<◌}
 use native.Mathlib.Omega.{arith}
 use native.Mathlib.Nat.{eq-or-lt_of_le}
 use borrow.Author.Tests.{leb-true, eqb-true, not-true}
-use lib.Dec.{lit<, leb}
+use lib.Dec.{leb}
 use lib.IntN.{ℤ, pos, negsuc, neg_ℤ}
 use lib.ListN.{length}
 use lib.Signed.{le_z}
+use Rattle.std.specs.Prelude.{Result, Ok}
 use Rattle.integers.specs.Lists.{every}
 use Rattle.integers.proofs.Passes.{every_take, every_drop}
 use Rattle.integers.specs.Ranges.{natural}
 use Rattle.integers.proofs.Linear.{not_both}
 use Rattle.integers.proofs.Tests.{and_true}
+use Rattle.rules.specs.declared.Cause.{Cause}
+use Rattle.rules.specs.declared.Cause.TheVariants as cause
 use Rattle.rules.specs.declared.Day.{Day}
-use Rattle.rules.specs.declared.HourAnswer.TheVariants.{Refused as HourRefused}
-use Rattle.rules.specs.declared.ClosingAnswer.TheVariants.{Refused as ClosingRefused}
 use Rattle.rules.specs.declared.HourTerms.{HourTerms}
 use Rattle.rules.specs.Limits.{length_least, length_most, threshold_most, users_fit, length_fit, zone_fit, position_fit, upper_fit, lower_fit}
 use Rattle.rules.specs.Days.{users, is_closed, first_place, part}
 use Rattle.rules.specs.Hours.{Hour, Closing}
 use Rattle.rules.specs.Causes.{hour_cause, closing_cause, day_fit, table_long, list_long, scratch_long, hour_long, closing_long, zone_open, positions_fit, table_fit, terms_fit}
-use Rattle.rules.specs.Refusals.{unless, ◌then◌}
-use Rattle.rules.specs.Answers.{hour_answer, hour_number, closing_answer, closing_number}
+use Rattle.rules.specs.Refusals.{number, unless, ◌then◌}
+use Rattle.rules.specs.Answers.{hour_answer, hour_number, closing_answer, closing_number, number_by}
 use Rattle.rules.specs.Guarantees.{HourFit, ClosingFit}
-use Rattle.rules.proofs.Refusing.{unless_none, then_none, by_number}
+use Rattle.rules.proofs.Refusing.{unless_none, then_none, number_none, number_with_day}
 use Rattle.rules.proofs.Zones.{Zone, zone_of_lem}
 
 -- ---- what an hour and a closing test first, in the same order
-record FirstTests (day long zoned open' : Bool) (rest : ℕ) : Type 0 where
+record FirstTests (day long zoned open' : Bool) (rest : Result Unit Cause) : Type 0 where
   day_fits_lem : day ≡ true
   lengths : long ≡ true
   zone : zoned ≡ true
   is_open : open' ≡ true
-  later : rest ≡ 0
+  later : rest ≡ Ok tt
 
-first_tests : {day long zoned open' : Bool} {rest : ℕ}
-    → (unless day 2 then unless long 3 then unless zoned 4 then unless open' 5 then rest) ≡ 0 → FirstTests day long zoned open' rest
+first_tests : {day long zoned open' : Bool} {rest : Result Unit Cause}
+    → (unless day cause.Record then unless long cause.Lengths then unless zoned cause.Zone then unless open' cause.Closed then rest) ≡ Ok tt
+    → FirstTests day long zoned open' rest
 first_tests k2 =
     let k3 = (then_none k2).1 in
     let k4 = (then_none k3).1 in
     let k5 = (then_none k4).1 in
     record {
-      day_fits_lem = unless_none _ _ (lit< tt) (then_none k2).0;
-      lengths = unless_none _ _ (lit< tt) (then_none k3).0;
-      zone = unless_none _ _ (lit< tt) (then_none k4).0;
-      is_open = unless_none _ _ (lit< tt) (then_none k5).0;
+      day_fits_lem = unless_none _ _ (then_none k2).0;
+      lengths = unless_none _ _ (then_none k3).0;
+      zone = unless_none _ _ (then_none k4).0;
+      is_open = unless_none _ _ (then_none k5).0;
       later = (then_none k5).1;
     }
 
 -- ---- an hour is accepted if and only if no listed cause exists
 module _ (d : Day) (t : List ℤ) (g : Hour) where
-  pub hour_fit_lem : hour_cause d t g ≡ 0 → HourFit d t g
+  pub hour_fit_lem : hour_cause d t g ≡ Ok tt → HourFit d t g
   unfolding hour_cause
   hour_fit_lem k =
       let f = first_tests k in
@@ -67,25 +69,28 @@ module _ (d : Day) (t : List ℤ) (g : Hour) where
         lengths = f.lengths;
         zone = f.zone;
         open' = f.is_open;
-        next = unless_none _ _ (lit< tt) (then_none f.later).0;
-        table = unless_none _ _ (lit< tt) (then_none k7).0;
-        terms = unless_none _ _ (lit< tt) (then_none k8).0;
-        amounts = unless_none _ _ (lit< tt) (then_none k9).0;
-        pooling = unless_none _ _ (lit< tt) (then_none k10).0;
-        positions = unless_none _ _ (lit< tt) (then_none k10).1;
+        next = unless_none _ _ (then_none f.later).0;
+        table = unless_none _ _ (then_none k7).0;
+        terms = unless_none _ _ (then_none k8).0;
+        amounts = unless_none _ _ (then_none k9).0;
+        pooling = unless_none _ _ (then_none k10).0;
+        positions = unless_none _ _ (then_none k10).1;
       }
 
-  pub fit_hour : HourFit d t g → hour_cause d t g ≡ 0
-  unfolding hour_cause unless ◌then◌
+  pub fit_hour : HourFit d t g → hour_cause d t g ≡ Ok tt
+  unfolding hour_cause
   fit_hour f = rw (f.day, f.lengths, f.zone, f.open', f.next, f.table, f.terms, f.amounts, f.pooling, f.positions)
 
-  pub hour_number_lem : hour_number (hour_answer d t g) ≡ hour_cause d t g
+  pub hour_number_lem : hour_number (hour_answer d t g) ≡ number_by number (hour_cause d t g)
   unfolding hour_number hour_answer
-  hour_number_lem = by_number hour_number _ (λ k. HourRefused (record { number = k; day = d })) refl (λ k. refl) (hour_cause d t g)
+  hour_number_lem = number_with_day d (hour_cause d t g) _
+
+  pub hour_none : hour_number (hour_answer d t g) ≡ 0 → hour_cause d t g ≡ Ok tt
+  hour_none e = number_none (hour_cause d t g) (sym hour_number_lem ∙ e)
 
 -- ---- a closing is accepted if and only if no listed cause exists
 module _ (d : Day) (t : List ℤ) (g : Closing) where
-  pub closing_fit : closing_cause d t g ≡ 0 → ClosingFit d t g
+  pub closing_fit : closing_cause d t g ≡ Ok tt → ClosingFit d t g
   unfolding closing_cause
   closing_fit k =
       let f = first_tests k in
@@ -95,18 +100,21 @@ module _ (d : Day) (t : List ℤ) (g : Closing) where
         lengths = f.lengths;
         zone = f.zone;
         open' = f.is_open;
-        done = unless_none _ _ (lit< tt) (then_none f.later).0;
-        table = unless_none _ _ (lit< tt) (then_none k7).0;
-        prices = unless_none _ _ (lit< tt) (then_none k7).1;
+        done = unless_none _ _ (then_none f.later).0;
+        table = unless_none _ _ (then_none k7).0;
+        prices = unless_none _ _ (then_none k7).1;
       }
 
-  pub fit_closing : ClosingFit d t g → closing_cause d t g ≡ 0
-  unfolding closing_cause unless ◌then◌
+  pub fit_closing : ClosingFit d t g → closing_cause d t g ≡ Ok tt
+  unfolding closing_cause
   fit_closing f = rw (f.day, f.lengths, f.zone, f.open', f.done, f.table, f.prices)
 
-  pub closing_number_lem : closing_number (closing_answer d t g) ≡ closing_cause d t g
+  pub closing_number_lem : closing_number (closing_answer d t g) ≡ number_by number (closing_cause d t g)
   unfolding closing_number closing_answer
-  closing_number_lem = by_number closing_number _ (λ k. ClosingRefused (record { number = k; day = d })) refl (λ k. refl) (closing_cause d t g)
+  closing_number_lem = number_with_day d (closing_cause d t g) _
+
+  pub closing_none : closing_number (closing_answer d t g) ≡ 0 → closing_cause d t g ≡ Ok tt
+  closing_none e = number_none (closing_cause d t g) (sym closing_number_lem ∙ e)
 
 -- ---- what both may count on, in plain numbers
 pub record Sound (d : Day) (t : List ℤ) (zone : ℤ) : Type 0 where
@@ -149,30 +157,28 @@ sound_of d t zone day long zoned =
     let n = users_of_lem d day in
     record { some = n.0; few = n.1; long = table_long_lem t long; zoned = zone_of_lem zone zoned }
 
-pub hour_sound : (d : Day) (t : List ℤ) (g : Hour) → hour_cause d t g ≡ 0 → Sound d t g.terms.zone
-unfolding hour_cause hour_long
+pub hour_sound : (d : Day) (t : List ℤ) (g : Hour) → hour_cause d t g ≡ Ok tt → Sound d t g.terms.zone
+unfolding hour_long
 hour_sound d t g k =
-    let f = first_tests k in
-    sound_of d t g.terms.zone f.day_fits_lem (and_true (table_long t) _ f.lengths).0 f.zone
+    let f = hour_fit_lem d t g k in
+    sound_of d t g.terms.zone f.day (and_true (table_long t) _ f.lengths).0 f.zone
 
-pub closing_sound : (d : Day) (t : List ℤ) (g : Closing) → closing_cause d t g ≡ 0 → Sound d t g.terms.zone
-unfolding closing_cause closing_long
+pub closing_sound : (d : Day) (t : List ℤ) (g : Closing) → closing_cause d t g ≡ Ok tt → Sound d t g.terms.zone
+unfolding closing_long
 closing_sound d t g k =
-    let f = first_tests k in
-    sound_of d t g.terms.zone f.day_fits_lem (and_true (table_long t) _ f.lengths).0 f.zone
+    let f = closing_fit d t g k in
+    sound_of d t g.terms.zone f.day (and_true (table_long t) _ f.lengths).0 f.zone
 
 -- ---- and that the zone is not closed
 open_zone : (zone : ℤ) (d : Day) → zone_open zone d ≡ true → is_closed zone d ≡ false
 unfolding zone_open
 open_zone zone d e = not-true (is_closed zone d) e
 
-pub hour_open : (d : Day) (t : List ℤ) (g : Hour) → hour_cause d t g ≡ 0 → is_closed g.terms.zone d ≡ false
-unfolding hour_cause
-hour_open d t g k = open_zone g.terms.zone d (first_tests k).is_open
+pub hour_open : (d : Day) (t : List ℤ) (g : Hour) → hour_cause d t g ≡ Ok tt → is_closed g.terms.zone d ≡ false
+hour_open d t g k = open_zone g.terms.zone d (hour_fit_lem d t g k).open'
 
-pub closing_open : (d : Day) (t : List ℤ) (g : Closing) → closing_cause d t g ≡ 0 → is_closed g.terms.zone d ≡ false
-unfolding closing_cause
-closing_open d t g k = open_zone g.terms.zone d (first_tests k).is_open
+pub closing_open : (d : Day) (t : List ℤ) (g : Closing) → closing_cause d t g ≡ Ok tt → is_closed g.terms.zone d ≡ false
+closing_open d t g k = open_zone g.terms.zone d (closing_fit d t g k).open'
 
 -- ---- the lists and the scratch have a place for each user
 pub record HourLengths (n : ℕ) (g : Hour) : Type 0 where

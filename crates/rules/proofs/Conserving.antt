@@ -3,30 +3,30 @@ use mathlib.Core.Path.{◌≡◌, refl, sym, ap, ap₂, ◌∙◌, subst}
 use mathlib.Core.Bool.{Bool, true, false, cond, ◌&&◌, ◌||◌, or-true, or-false, or_assoc}
 use mathlib.Core.Logic.{◌⊎◌, inl, inr}
 use mathlib.Core.List.{List, [], ◌∷◌}
-use Prim.Native.Nat.{ℕ, zero, suc, ◌≤◌, ◌<◌}
+use Prim.Native.Nat.{ℕ, ◌≤◌, ◌<◌}
 use native.Mathlib.Omega.{arith}
-use native.Mathlib.Nat.{eq-zero-or-pos}
-use borrow.Author.Tests.{eq-eqb, ne_eqb}
-use lib.Dec.{eqb, lit<}
+use lib.Dec.{eqb}
 use lib.IntN.{ℤ, pos, ◌+ℤ◌, ◌-ℤ◌, +ℤ_comm}
 use lib.ListN.{length, get_or, take, replicate, length-replicate, get_or-replicate}
 use lib.Seq.{get_or-take, take_at}
+use Rattle.std.specs.Prelude.{Result, Ok, Err}
+use Rattle.std.specs.Result.{is_ok}
 use Rattle.integers.specs.Ranges.{equal, is_zero, natural}
 use Rattle.integers.proofs.Linear.{lin3, lin4, diffs, linear, not_both}
 use Rattle.integers.proofs.Tests.{and_true, equal_true, equal_false}
 use Rattle.integers.proofs.Counts.{length-tabulate, get_or-tabulate}
+use Rattle.rules.specs.declared.Cause.{Cause}
 use Rattle.rules.specs.declared.Day.{Day}
 use Rattle.rules.specs.declared.ZoneDay.{ZoneDay}
-use Rattle.rules.specs.declared.OpenAnswer.TheVariants.{Refused as OpenRefused, Opened}
 use Rattle.rules.specs.Limits.{length_fit}
-use Rattle.rules.specs.Refusals.{by_cause}
+use Rattle.rules.specs.Refusals.{◌then◌, by_cause}
 use Rattle.rules.specs.Days.{users, hours_of_day, zone_day, hours_done, is_closed, new_day, day_after_hour, day_after_closing, first_place, part, place, onto}
 use Rattle.rules.specs.Hours.{Hour, Closing, amounts, before, standing}
-use Rattle.rules.specs.Market.{after}
+use Rattle.rules.specs.Market.{after, outcome, sold, bought}
 use Rattle.rules.specs.Causes.{open_cause, hour_cause, closing_cause}
-use Rattle.rules.specs.Answers.{open_answer, open_table, hour_imbalance, hour_answer, hour_table, hour_quantity, hour_day, closing_answer, closing_table, closing_quantity, closing_day}
+use Rattle.rules.specs.Answers.{with_day, open_answer, open_table, hour_imbalance, hour_answer, hour_table, hour_quantity, hour_day, closing_answer, closing_table, closing_quantity, closing_day}
 use Rattle.rules.specs.History.{Call, hour, closing, State, step, run, hour_accepted, closing_accepted, adds_first, adds_second, first_sum, second_sum, closes_now, closes}
-use Rattle.rules.proofs.Refusing.{unless_none, then_none, by_none, by_some, by_ap}
+use Rattle.rules.proofs.Refusing.{unless_none, then_none, cause_of, by_none, by_some, number_is_ok}
 use Rattle.rules.proofs.Zones.{Zone, H, L, length_part, part_changed, part_other, length-onto, get_or-onto, of_both, Keeps, zone_keeps, closed_hour, closed_closing}
 use Rattle.rules.proofs.Accepted.{users_range, hour_sound, closing_sound, hour_open, closing_open, hour_number_lem, closing_number_lem}
 use Rattle.rules.proofs.Settling.{length-after, after_at}
@@ -36,7 +36,7 @@ unfolding before
 length_before d t g = length-tabulate _ (users d)
 
 -- ---- an accepted hour: its own part, the other part, and the user's place
-module _ (d : Day) (t : List ℤ) (g : Hour) (k : hour_cause d t g ≡ 0) where
+module _ (d : Day) (t : List ℤ) (g : Hour) (k : hour_cause d t g ≡ Ok tt) where
   part_long : length (onto (after (hour_imbalance d t g) (before d t g)) (part g.terms.zone t)) ≡ 128
   part_long =
       let s = hour_sound d t g k in
@@ -66,7 +66,7 @@ module _ (d : Day) (t : List ℤ) (g : Hour) (k : hour_cause d t g ≡ 0) where
       ∙ ap₂ ◌-ℤ◌ (get_or-tabulate _ (users d) u (pos 0) h) (ap (λ (l : List ℤ). get_or l u (pos 0)) (sym (by_none _ _ _ k)))
 
 -- ---- an accepted closing
-module _ (d : Day) (t : List ℤ) (g : Closing) (k : closing_cause d t g ≡ 0) where
+module _ (d : Day) (t : List ℤ) (g : Closing) (k : closing_cause d t g ≡ Ok tt) where
   closing_part : part g.terms.zone (closing_table d t g) ≡ replicate 128 (pos 0)
   unfolding closing_table
   closing_part =
@@ -88,39 +88,44 @@ module _ (d : Day) (t : List ℤ) (g : Closing) (k : closing_cause d t g ≡ 0) 
   closing_quantity_lem u h = ap (λ (l : List ℤ). get_or l u (pos 0)) (by_none _ _ _ k) ∙ get_or-take (users d) (part g.terms.zone t) u (pos 0) h
 
 -- ---- a call is accepted or refused, and a refused one leaves record and table
-hour_accepted_lem : (s : State) (g : Hour) (b : Bool) → eqb (hour_cause s.day s.table g) 0 ≡ b → hour_accepted s g ≡ b
+hour_accepted_lem : (s : State) (g : Hour) {c : Result Unit Cause} → hour_cause s.day s.table g ≡ c → hour_accepted s g ≡ is_ok c
 unfolding hour_accepted
-hour_accepted_lem s g b e = ap (λ (n : ℕ). eqb n 0) (hour_number_lem s.day s.table g) ∙ e
+hour_accepted_lem s g e = ap (λ (n : ℕ). eqb n 0) (hour_number_lem s.day s.table g) ∙ number_is_ok (hour_cause s.day s.table g) ∙ ap is_ok e
 
-closing_accepted_lem : (s : State) (g : Closing) (b : Bool) → eqb (closing_cause s.day s.table g) 0 ≡ b → closing_accepted s g ≡ b
+closing_accepted_lem : (s : State) (g : Closing) {c : Result Unit Cause} → closing_cause s.day s.table g ≡ c → closing_accepted s g ≡ is_ok c
 unfolding closing_accepted
-closing_accepted_lem s g b e = ap (λ (n : ℕ). eqb n 0) (closing_number_lem s.day s.table g) ∙ e
+closing_accepted_lem s g e = ap (λ (n : ℕ). eqb n 0) (closing_number_lem s.day s.table g) ∙ number_is_ok (closing_cause s.day s.table g) ∙ ap is_ok e
 
-some_not_none : (n : ℕ) → 0 < n → eqb n 0 ≡ false
-some_not_none n h = ne_eqb n 0 (λ e. absurd (omega arith))
-
-hour_refused : (d : Day) (t : List ℤ) (g : Hour) → 0 < hour_cause d t g → hour_table d t g ≡ t
+hour_refused : (d : Day) (t : List ℤ) (g : Hour) {k : Cause} → hour_cause d t g ≡ Err k → hour_table d t g ≡ t
 unfolding hour_table
 hour_refused d t g k = by_some _ _ _ k
 
-closing_refused : (d : Day) (t : List ℤ) (g : Closing) → 0 < closing_cause d t g → closing_table d t g ≡ t
+closing_refused : (d : Day) (t : List ℤ) (g : Closing) {k : Cause} → closing_cause d t g ≡ Err k → closing_table d t g ≡ t
 unfolding closing_table
 closing_refused d t g k = by_some _ _ _ k
 
 hour_day_lem : (d : Day) (t : List ℤ) (g : Hour) → hour_day (hour_answer d t g) ≡ by_cause (hour_cause d t g) (day_after_hour g.terms.zone d) d
-unfolding hour_answer hour_day
-hour_day_lem d t g = by_ap hour_day (hour_cause d t g) _ _
+unfolding hour_answer hour_day by_cause
+hour_day_lem d t g = go (hour_cause d t g)
+  where
+    go : (c : Result Unit Cause) → hour_day (with_day d c then Ok (record { day = day_after_hour g.terms.zone d; outcome = outcome (hour_imbalance d t g) (before d t g) })) ≡ by_cause c (day_after_hour g.terms.zone d) d
+    go (Ok u) = refl
+    go (Err k) = refl
 
 closing_day_lem : (d : Day) (t : List ℤ) (g : Closing)
     → closing_day (closing_answer d t g) ≡ by_cause (closing_cause d t g) (day_after_closing g.terms.zone d) d
-unfolding closing_answer closing_day
-closing_day_lem d t g = by_ap closing_day (closing_cause d t g) _ _
+unfolding closing_answer closing_day by_cause
+closing_day_lem d t g = go (closing_cause d t g)
+  where
+    go : (c : Result Unit Cause) → closing_day (with_day d c then Ok (record { day = day_after_closing g.terms.zone d; sold = sold (standing d t g); bought = bought (standing d t g) })) ≡ by_cause c (day_after_closing g.terms.zone d) d
+    go (Ok u) = refl
+    go (Err k) = refl
 
 -- the user count and the length stay
-by_keeps : (k : ℕ) (e d : Day) → Keeps e d → Keeps (by_cause k e d) d
+by_keeps : (c : Result Unit Cause) (e d : Day) → Keeps e d → Keeps (by_cause c e d) d
 unfolding by_cause
-by_keeps zero e d h = h
-by_keeps (suc k) e d h = record { users = refl; length = refl }
+by_keeps (Ok u) e d h = h
+by_keeps (Err k) e d h = record { users = refl; length = refl }
 
 step_keeps : (s : State) (c : Call) → Keeps (step s c).day s.day
 unfolding step day_after_hour day_after_closing
@@ -147,7 +152,7 @@ chain = lin3 _ (λ a b c d e f. lin4 _ (λ g h i j k l m n. simp diffs (omega li
 
 module _ (zone : ℤ) (user : ℕ) (zoned : Zone zone) where
   module _ (d : Day) (t : List ℤ) (h : user < users d) where
-    hour_yes : (g : Hour) → hour_cause d t g ≡ 0 → (b : Bool) → equal g.terms.zone zone ≡ b
+    hour_yes : (g : Hour) → hour_cause d t g ≡ Ok tt → (b : Bool) → equal g.terms.zone zone ≡ b
         → cond b (amounts g user) (pos 0) +ℤ place zone user t
         ≡ cond b (get_or (hour_quantity d t g) user (pos 0)) (pos 0) +ℤ place zone user (hour_table d t g)
     unfolding place
@@ -157,7 +162,7 @@ module _ (zone : ℤ) (user : ℕ) (zoned : Zone zone) where
     hour_yes g k false e =
         ap (λ (p : List ℤ). pos 0 +ℤ get_or p user (pos 0)) (sym (hour_other d t g k zone zoned (equal_false g.terms.zone zone e)))
 
-    closing_yes : (g : Closing) → closing_cause d t g ≡ 0 → (b : Bool) → equal g.terms.zone zone ≡ b
+    closing_yes : (g : Closing) → closing_cause d t g ≡ Ok tt → (b : Bool) → equal g.terms.zone zone ≡ b
         → pos 0 +ℤ place zone user t ≡ cond b (get_or (closing_quantity d t g) user (pos 0)) (pos 0) +ℤ place zone user (closing_table d t g)
     unfolding place
     closing_yes g k true e =
@@ -173,20 +178,20 @@ module _ (zone : ℤ) (user : ℕ) (zoned : Zone zone) where
   step_balance : (s : State) (c : Call) → user < users s.day
       → adds_first zone user s c +ℤ place zone user s.table ≡ adds_second zone user s c +ℤ place zone user (step s c).table
   unfolding adds_first adds_second step
-  step_balance s (hour g) h = go (eq-zero-or-pos (hour_cause s.day s.table g))
+  step_balance s (hour g) h = go (cause_of (hour_cause s.day s.table g))
     where
-      go : (hour_cause s.day s.table g ≡ 0) ⊎ (0 < hour_cause s.day s.table g)
+      go : (hour_cause s.day s.table g ≡ Ok tt) ⊎ ((k : Cause) × (hour_cause s.day s.table g ≡ Err k))
           → adds_first zone user s (hour g) +ℤ place zone user s.table
           ≡ adds_second zone user s (hour g) +ℤ place zone user (hour_table s.day s.table g)
-      go (inl k) = rw (hour_accepted_lem s g true (eq-eqb _ 0 k)) (hour_yes s.day s.table h g k (equal g.terms.zone zone) refl)
-      go (inr k) = rw (hour_accepted_lem s g false (some_not_none _ k), hour_refused s.day s.table g k)
-  step_balance s (closing g) h = go (eq-zero-or-pos (closing_cause s.day s.table g))
+      go (inl k) = rw (hour_accepted_lem s g k) (hour_yes s.day s.table h g k (equal g.terms.zone zone) refl)
+      go (inr k) = rw (hour_accepted_lem s g k.1, hour_refused s.day s.table g k.1)
+  step_balance s (closing g) h = go (cause_of (closing_cause s.day s.table g))
     where
-      go : (closing_cause s.day s.table g ≡ 0) ⊎ (0 < closing_cause s.day s.table g)
+      go : (closing_cause s.day s.table g ≡ Ok tt) ⊎ ((k : Cause) × (closing_cause s.day s.table g ≡ Err k))
           → adds_first zone user s (closing g) +ℤ place zone user s.table
           ≡ adds_second zone user s (closing g) +ℤ place zone user (closing_table s.day s.table g)
-      go (inl k) = rw (closing_accepted_lem s g true (eq-eqb _ 0 k)) (closing_yes s.day s.table h g k (equal g.terms.zone zone) refl)
-      go (inr k) = rw (closing_accepted_lem s g false (some_not_none _ k), closing_refused s.day s.table g k)
+      go (inl k) = rw (closing_accepted_lem s g k) (closing_yes s.day s.table h g k (equal g.terms.zone zone) refl)
+      go (inr k) = rw (closing_accepted_lem s g k.1, closing_refused s.day s.table g k.1)
 
   -- ---- a list of calls
   pub balance : (s : State) (cs : List Call) → user < users s.day
@@ -200,25 +205,18 @@ module _ (zone : ℤ) (user : ℕ) (zoned : Zone zone) where
 
 -- ---- an opened day begins at zero
 module _ (n len : ℤ) (t : List ℤ) where
-  pub opened_by : (d : Day) → open_answer n len t ≡ Opened d → (open_cause n len t ≡ 0) × (d ≡ new_day n len)
+  pub opened_by : (d : Day) → open_answer n len t ≡ Ok d → (open_cause n len t ≡ Ok tt) × (d ≡ new_day n len)
   unfolding open_answer
-  opened_by d e = go (eq-zero-or-pos (open_cause n len t))
-    where
-      go : (open_cause n len t ≡ 0) ⊎ (0 < open_cause n len t) → (open_cause n len t ≡ 0) × (d ≡ new_day n len)
-      go (inl k) = let q : Opened (new_day n len) ≡ Opened d = sym (by_none _ _ _ k) ∙ e in (k, cc)
-      go (inr k) =
-          let q : OpenRefused (open_cause n len t) ≡ Opened d = sym (by_some _ _ _ k) ∙ e in
-          let z : ◌≡◌ {A = ℕ} 0 1 = cc in
-          absurd (omega arith)
+  opened_by d e = let (k, q) = then_none e in (k, cc)
 
-  module _ (k : open_cause n len t ≡ 0) where
+  module _ (k : open_cause n len t ≡ Ok tt) where
     pub open_users : natural n ≤ 128
     unfolding open_cause
-    open_users = (users_range n (unless_none _ _ (lit< tt) (then_none k).0)).1
+    open_users = (users_range n (unless_none _ _ (then_none k).0)).1
 
     pub open_length : length_fit len ≡ true
     unfolding open_cause
-    open_length = unless_none _ _ (lit< tt) (then_none (then_none k).1).0
+    open_length = unless_none _ _ (then_none (then_none k).1).0
 
     pub open_table_lem : open_table n len t ≡ replicate 256 (pos 0)
     unfolding open_table
@@ -229,7 +227,7 @@ unfolding place part first_place
 zero_place H p h = get_or-replicate 128 p (pos 0) (pos 0) h
 zero_place L p h = get_or-replicate 128 p (pos 0) (pos 0) h
 
-pub open_zero : (n len : ℤ) (t : List ℤ) → open_cause n len t ≡ 0 → {zone : ℤ} → Zone zone → (p : ℕ) → p < 128 → place zone p (open_table n len t) ≡ pos 0
+pub open_zero : (n len : ℤ) (t : List ℤ) → open_cause n len t ≡ Ok tt → {zone : ℤ} → Zone zone → (p : ℕ) → p < 128 → place zone p (open_table n len t) ≡ pos 0
 open_zero n len t k {zone} zoned p h = ap (place zone p) (open_table_lem n len t k) ∙ zero_place zoned p h
 
 -- whichever zone: no hours done, and not closed
@@ -253,28 +251,28 @@ clash d y z f h q = not_both (sym h ∙ ap (λ (x : ℤ). is_closed x d) (sym q)
 -- the mark of a zone after a call
 marked_step : (zone : ℤ) → Zone zone → (s : State) (c : Call) → is_closed zone (step s c).day ≡ (is_closed zone s.day || closes_now zone s c)
 unfolding step closes_now
-marked_step zone zoned s (hour g) = go (eq-zero-or-pos (hour_cause s.day s.table g))
+marked_step zone zoned s (hour g) = go (cause_of (hour_cause s.day s.table g))
   where
-    go : (hour_cause s.day s.table g ≡ 0) ⊎ (0 < hour_cause s.day s.table g)
+    go : (hour_cause s.day s.table g ≡ Ok tt) ⊎ ((k : Cause) × (hour_cause s.day s.table g ≡ Err k))
         → is_closed zone (hour_day (hour_answer s.day s.table g)) ≡ (is_closed zone s.day || false)
     go (inl k) =
         ap (is_closed zone) (hour_day_lem s.day s.table g ∙ by_none _ _ _ k)
         ∙ closed_hour zone g.terms.zone s.day zoned (hour_sound s.day s.table g k).zoned ∙ sym (or-false _)
-    go (inr k) = ap (is_closed zone) (hour_day_lem s.day s.table g ∙ by_some _ _ _ k) ∙ sym (or-false _)
-marked_step zone zoned s (closing g) = go (eq-zero-or-pos (closing_cause s.day s.table g))
+    go (inr k) = ap (is_closed zone) (hour_day_lem s.day s.table g ∙ by_some _ _ _ k.1) ∙ sym (or-false _)
+marked_step zone zoned s (closing g) = go (cause_of (closing_cause s.day s.table g))
   where
     now : Bool → Bool
     now b = is_closed zone s.day || b && equal g.terms.zone zone
 
-    go : (closing_cause s.day s.table g ≡ 0) ⊎ (0 < closing_cause s.day s.table g)
+    go : (closing_cause s.day s.table g ≡ Ok tt) ⊎ ((k : Cause) × (closing_cause s.day s.table g ≡ Err k))
         → is_closed zone (closing_day (closing_answer s.day s.table g)) ≡ now (closing_accepted s g)
     go (inl k) =
         ap (is_closed zone) (closing_day_lem s.day s.table g ∙ by_none _ _ _ k)
         ∙ closed_closing zone g.terms.zone s.day zoned (closing_sound s.day s.table g k).zoned
-        ∙ ap now (sym (closing_accepted_lem s g true (eq-eqb _ 0 k)))
+        ∙ ap now (sym (closing_accepted_lem s g k))
     go (inr k) =
-        ap (is_closed zone) (closing_day_lem s.day s.table g ∙ by_some _ _ _ k) ∙ sym (or-false _)
-        ∙ ap now (sym (closing_accepted_lem s g false (some_not_none _ k)))
+        ap (is_closed zone) (closing_day_lem s.day s.table g ∙ by_some _ _ _ k.1) ∙ sym (or-false _)
+        ∙ ap now (sym (closing_accepted_lem s g k.1))
 
 pub marked-run : (zone : ℤ) → Zone zone → (s : State) (cs : List Call) → is_closed zone (run s cs).day ≡ (is_closed zone s.day || closes zone s cs)
 unfolding run closes
@@ -286,18 +284,18 @@ marked-run zone zoned s (c ∷ cs) =
 -- a closed zone's part is as it was
 closed_step : (zone : ℤ) → Zone zone → (s : State) (c : Call) → is_closed zone s.day ≡ true → part zone (step s c).table ≡ part zone s.table
 unfolding step
-closed_step zone zoned s (hour g) h = go (eq-zero-or-pos (hour_cause s.day s.table g))
+closed_step zone zoned s (hour g) h = go (cause_of (hour_cause s.day s.table g))
   where
-    go : (hour_cause s.day s.table g ≡ 0) ⊎ (0 < hour_cause s.day s.table g)
+    go : (hour_cause s.day s.table g ≡ Ok tt) ⊎ ((k : Cause) × (hour_cause s.day s.table g ≡ Err k))
         → part zone (hour_table s.day s.table g) ≡ part zone s.table
     go (inl k) = hour_other s.day s.table g k zone zoned (clash s.day g.terms.zone zone (hour_open s.day s.table g k) h)
-    go (inr k) = ap (part zone) (hour_refused s.day s.table g k)
-closed_step zone zoned s (closing g) h = go (eq-zero-or-pos (closing_cause s.day s.table g))
+    go (inr k) = ap (part zone) (hour_refused s.day s.table g k.1)
+closed_step zone zoned s (closing g) h = go (cause_of (closing_cause s.day s.table g))
   where
-    go : (closing_cause s.day s.table g ≡ 0) ⊎ (0 < closing_cause s.day s.table g)
+    go : (closing_cause s.day s.table g ≡ Ok tt) ⊎ ((k : Cause) × (closing_cause s.day s.table g ≡ Err k))
         → part zone (closing_table s.day s.table g) ≡ part zone s.table
     go (inl k) = closing_other s.day s.table g k zone zoned (clash s.day g.terms.zone zone (closing_open s.day s.table g k) h)
-    go (inr k) = ap (part zone) (closing_refused s.day s.table g k)
+    go (inr k) = ap (part zone) (closing_refused s.day s.table g k.1)
 
 closed_run : (zone : ℤ) → Zone zone → (s : State) (cs : List Call) → is_closed zone s.day ≡ true
     → part zone (run s cs).table ≡ part zone s.table
@@ -310,12 +308,12 @@ closed_run zone zoned s (c ∷ cs) h =
 closed_now_lem : (zone : ℤ) (s : State) (c : Call) → closes_now zone s c ≡ true → (p : ℕ) → p < 128 → place zone p (step s c).table ≡ pos 0
 unfolding closes_now step
 closed_now_lem zone s (hour g) h = not_both (sym h)
-closed_now_lem zone s (closing g) h = go (eq-zero-or-pos (closing_cause s.day s.table g))
+closed_now_lem zone s (closing g) h = go (cause_of (closing_cause s.day s.table g))
   where
-    go : (closing_cause s.day s.table g ≡ 0) ⊎ (0 < closing_cause s.day s.table g) → (p : ℕ) → p < 128
+    go : (closing_cause s.day s.table g ≡ Ok tt) ⊎ ((k : Cause) × (closing_cause s.day s.table g ≡ Err k)) → (p : ℕ) → p < 128
         → place zone p (closing_table s.day s.table g) ≡ pos 0
     go (inl k) = rw (← equal_true g.terms.zone zone (and_true (closing_accepted s g) _ h).1) (closing_zero s.day s.table g k)
-    go (inr k) = not_both (sym (and_true (closing_accepted s g) _ h).0 ∙ closing_accepted_lem s g false (some_not_none _ k))
+    go (inr k) = not_both (sym (and_true (closing_accepted s g) _ h).0 ∙ closing_accepted_lem s g k.1)
 
 pub closed_zero : (zone : ℤ) → Zone zone → (s : State) (cs : List Call) → closes zone s cs ≡ true → (p : ℕ) → p < 128
     → place zone p (run s cs).table ≡ pos 0

@@ -1,13 +1,12 @@
 -- The theorems of specs/Guarantees.antt. Assumes nothing.
 use mathlib.Core.Path.{◌≡◌, sym, ap, ◌∙◌, subst}
 use mathlib.Core.Bool.{Bool, false, ◌||◌}
-use mathlib.Core.Logic.{◌⊎◌, inl, inr}
 use mathlib.Core.List.{List}
 use Prim.Native.Nat.{ℕ, ◌≤◌, ◌<◌}
 use native.Mathlib.Omega.{arith}
-use native.Mathlib.Nat.{eq-zero-or-pos}
 use lib.IntN.{ℤ, pos, ◌+ℤ◌, +ℤ_idr}
 use lib.ListN.{length, get_or, length-map, get_or-map}
+use Rattle.std.specs.Prelude.{Ok}
 use Rattle.integers.specs.Lists.{sum_ℤ}
 use Rattle.integers.proofs.Counts.{count_map}
 use Rattle.rules.specs.declared.Day.{Day}
@@ -16,17 +15,17 @@ use Rattle.rules.specs.declared.Marks.{Marks}
 use Rattle.rules.specs.declared.Side.{Side}
 use Rattle.rules.specs.declared.Outcome.{Outcome}
 use Rattle.rules.specs.declared.Outcome.TheVariants.{Settled}
-use Rattle.rules.specs.declared.HourAnswer.TheVariants.{Refused as HourRefused, Done}
-use Rattle.rules.specs.Days.{users, hours_of_day, zone_day, is_closed, new_day, day_after_hour}
+use Rattle.rules.specs.Days.{users, hours_of_day, zone_day, is_closed, new_day}
 use Rattle.rules.specs.Hours.{Hour, before}
+use Rattle.rules.specs.Refusals.{number}
 use Rattle.rules.specs.Market.{Imbalance, within, excess, shortfall, imbalance, caused, causers, marks, outcome}
 use Rattle.rules.specs.Causes.{hour_cause, before_fit}
-use Rattle.rules.specs.Answers.{hour_answer, hour_imbalance, hour_quantity}
+use Rattle.rules.specs.Answers.{hour_answer, hour_imbalance, hour_quantity, number_by}
 use Rattle.rules.specs.History.{opened, first_sum, closes}
 use Rattle.rules.specs.Guarantees.{BeginsAtZero, LengthKept, AcceptedIfFit, Conservation, ClosedIsZero, ClosedIsMarked, Accuracy, OutcomeByThresholds, MarksAreCausers}
-use Rattle.rules.proofs.Refusing.{by_none, by_some}
+use Rattle.rules.proofs.Refusing.{by_none, with_day_none}
 use Rattle.rules.proofs.Zones.{zone_of_lem}
-use Rattle.rules.proofs.Accepted.{length_of, hour_fit_lem, fit_hour, hour_sound, hour_number_lem, closing_fit, fit_closing, closing_number_lem, thresholds_sound}
+use Rattle.rules.proofs.Accepted.{length_of, hour_fit_lem, fit_hour, hour_sound, hour_number_lem, hour_none, closing_fit, fit_closing, closing_number_lem, closing_none, thresholds_sound}
 use Rattle.rules.proofs.Marking.{marked_at, marks_number}
 use Rattle.rules.proofs.Settling.{view, settles}
 use Rattle.rules.proofs.Telling.{tells}
@@ -43,8 +42,8 @@ length_kept n len t d e =
 
 pub accepted_if_fit : AcceptedIfFit
 accepted_if_fit = (
-  λ d t g. (λ e. hour_fit_lem d t g (sym (hour_number_lem d t g) ∙ e), λ f. hour_number_lem d t g ∙ fit_hour d t g f),
-  λ d t g. (λ e. closing_fit d t g (sym (closing_number_lem d t g) ∙ e), λ f. closing_number_lem d t g ∙ fit_closing d t g f),
+  λ d t g. (λ e. hour_fit_lem d t g (hour_none d t g e), λ f. hour_number_lem d t g ∙ ap (number_by number) (fit_hour d t g f)),
+  λ d t g. (λ e. closing_fit d t g (closing_none d t g e), λ f. closing_number_lem d t g ∙ ap (number_by number) (fit_closing d t g f)),
 )
 
 pub conservation : Conservation
@@ -69,7 +68,7 @@ closed_is_marked n len t d e calls zone z =
 pub accuracy : Accuracy
 unfolding hour_imbalance hour_quantity before_fit
 accuracy d t g a =
-    let k : hour_cause d t g ≡ 0 = sym (hour_number_lem d t g) ∙ a in
+    let k = hour_none d t g a in
     let f = hour_fit_lem d t g k in
     let b = thresholds_sound g.terms f.terms in
     rw (by_none (hour_cause d t g) _ _ k, positions_left d t g k)
@@ -78,23 +77,10 @@ accuracy d t g a =
 -- ---- the outcome of an accepted hour
 
 -- an hour that is done has no cause, and its outcome is the one defined
-done_by : (d : Day) (t : List ℤ) (g : Hour) (d' : Day) (o : Outcome) → hour_answer d t g ≡ Done (record { day = d'; outcome = o })
-    → (hour_cause d t g ≡ 0) × (outcome (hour_imbalance d t g) (before d t g) ≡ o)
+done_by : (d : Day) (t : List ℤ) (g : Hour) (d' : Day) (o : Outcome) → hour_answer d t g ≡ Ok (record { day = d'; outcome = o })
+    → (hour_cause d t g ≡ Ok tt) × (outcome (hour_imbalance d t g) (before d t g) ≡ o)
 unfolding hour_answer
-done_by d t g d' o e = go (eq-zero-or-pos (hour_cause d t g))
-  where
-    done : HourDone
-    done = record { day = day_after_hour g.terms.zone d; outcome = outcome (hour_imbalance d t g) (before d t g) }
-
-    go : (hour_cause d t g ≡ 0) ⊎ (0 < hour_cause d t g) → (hour_cause d t g ≡ 0) × (outcome (hour_imbalance d t g) (before d t g) ≡ o)
-    go (inl k) =
-        let q : Done done ≡ Done (record { day = d'; outcome = o }) = sym (by_none _ _ _ k) ∙ e in
-        let r : ◌≡◌ {A = HourDone} done (record { day = d'; outcome = o }) = cc in
-        (k, ap (λ (x : HourDone). x.outcome) r)
-    go (inr k) =
-        let q : HourRefused (record { number = hour_cause d t g; day = d }) ≡ Done (record { day = d'; outcome = o }) = sym (by_some _ _ _ k) ∙ e in
-        let z : ◌≡◌ {A = ℕ} 0 1 = cc in
-        absurd (omega arith)
+done_by d t g d' o e = let (k, q) = with_day_none d e in (k, ap (λ (x : HourDone). x.outcome) q)
 
 pub outcome_by_thresholds : OutcomeByThresholds
 unfolding hour_imbalance imbalance

@@ -1,46 +1,77 @@
 -- Laws of causes: what no cause says of the tests, and what is answered by a cause. Assumes nothing.
 use mathlib.Core.Path.{◌≡◌, refl}
 use mathlib.Core.Bool.{Bool, true, false}
-use Prim.Native.Nat.{ℕ, zero, suc, ◌<◌}
+use mathlib.Core.Logic.{◌⊎◌, inl, inr}
+use Prim.Native.Nat.{ℕ, ◌<◌}
 use native.Mathlib.Omega.{arith}
-use native.Mathlib.Nat.{not-suc-le-zero}
-use Rattle.rules.specs.Refusals.{unless, ◌then◌, by_cause}
+use borrow.Author.Tests.{ne_eqb}
+use lib.Dec.{eqb, lit<}
+use Rattle.std.specs.Prelude.{Result, Ok, Err}
+use Rattle.std.specs.Result.{is_ok}
+use Rattle.rules.specs.declared.Cause.{Cause}
+use Rattle.rules.specs.declared.Cause.TheVariants as cause
+use Rattle.rules.specs.declared.Day.{Day}
+use Rattle.rules.specs.Refusals.{number, unless, ◌then◌, by_cause}
+use Rattle.rules.specs.Answers.{with_day, number_by}
+
+pub not_refused : {A E : Type 0} {a : A} {k : E} → Err k ≡ Ok a → ⊥
+not_refused e = let z : ◌≡◌ {A = ℕ} 0 1 = cc in absurd (omega arith)
 
 -- no cause: the test held
-pub unless_none : (b : Bool) (k : ℕ) → 0 < k → unless b k ≡ 0 → b ≡ true
-unfolding unless
-unless_none true k l h = refl
-unless_none false k l h = absurd (omega arith)
+pub unless_none : {E : Type 0} (b : Bool) (k : E) → unless b k ≡ Ok tt → b ≡ true
+unless_none true k e = refl
+unless_none false k e = absurd (not_refused e)
 
 -- no cause of the two: none of either
-pub then_none : {a b : ℕ} → (a then b) ≡ 0 → (a ≡ 0) × (b ≡ 0)
-unfolding ◌then◌
-then_none {a = zero} h = (refl, h)
-then_none {a = suc a} h = absurd (omega arith)
+pub then_none : {A E : Type 0} {c : Result Unit E} {r : Result A E} {a : A} → (c then r) ≡ Ok a → (c ≡ Ok tt) × (r ≡ Ok a)
+then_none {c = Ok u} e = (refl, e)
+then_none {c = Err k} e = absurd (not_refused e)
 
--- a test that found a cause
-pub some_cause : {c k : ℕ} → c ≡ k → (c ≡ 0 → ⊥) → 0 < k
-some_cause {k = zero} e n = absurd (n e)
-some_cause {k = suc k} e n = omega arith
+-- a call has no cause, or one
+pub cause_of : {E : Type 0} (c : Result Unit E) → (c ≡ Ok tt) ⊎ ((k : E) × (c ≡ Err k))
+cause_of (Ok u) = inl refl
+cause_of (Err k) = inr (k, refl)
 
-pub by_none : {A : Type 0} (k : ℕ) (a b : A) → k ≡ 0 → by_cause k a b ≡ a
+pub by_none : {A E : Type 0} (c : Result Unit E) (a b : A) → c ≡ Ok tt → by_cause c a b ≡ a
 unfolding by_cause
-by_none zero a b e = refl
-by_none (suc k) a b e = absurd (omega arith)
+by_none (Ok u) a b e = refl
+by_none (Err k) a b e = absurd (not_refused e)
 
-pub by_some : {A : Type 0} (k : ℕ) (a b : A) → 0 < k → by_cause k a b ≡ b
+pub by_some : {A E : Type 0} (c : Result Unit E) (a b : A) {k : E} → c ≡ Err k → by_cause c a b ≡ b
 unfolding by_cause
-by_some zero a b h = absurd (not-suc-le-zero h)
-by_some (suc k) a b h = refl
+by_some c a b e = rw e refl
 
-pub by_ap : {A B : Type 0} (f : A → B) (k : ℕ) (a b : A) → f (by_cause k a b) ≡ by_cause k (f a) (f b)
-unfolding by_cause
-by_ap f zero a b = refl
-by_ap f (suc k) a b = refl
+-- an answer that is no refusal: no cause, and what is then answered
+pub with_day_none : {A : Type 0} (d : Day) {c : Result Unit Cause} {r : A} {a : A} → (with_day d c then Ok r) ≡ Ok a → (c ≡ Ok tt) × (r ≡ a)
+with_day_none d {c = Ok u} e = (refl, cc)
+with_day_none d {c = Err k} e = absurd (not_refused e)
 
--- a reading that finds 0 in what is accepted and k in the refusal by k finds the cause
-pub by_number : {A : Type 0} (f : A → ℕ) (accepted : A) (refused : ℕ → A) → f accepted ≡ 0 → ((k : ℕ) → f (refused k) ≡ k)
-    → (k : ℕ) → f (by_cause k accepted (refused k)) ≡ k
-unfolding by_cause
-by_number f accepted refused p q zero = p
-by_number f accepted refused p q (suc k) = q (suc k)
+-- ---- the number of a cause, and of an answer
+
+pub number_some : (k : Cause) → 0 < number k
+number_some cause.Users = lit< tt
+number_some cause.Record = lit< tt
+number_some cause.Lengths = lit< tt
+number_some cause.Zone = lit< tt
+number_some cause.Closed = lit< tt
+number_some cause.Hour = lit< tt
+number_some cause.Table = lit< tt
+number_some cause.Terms = lit< tt
+number_some cause.Amounts = lit< tt
+number_some cause.Pooling = lit< tt
+number_some cause.Positions = lit< tt
+number_some cause.DayLength = lit< tt
+
+pub number_none : (c : Result Unit Cause) → number_by number c ≡ 0 → c ≡ Ok tt
+number_none (Ok u) e = refl
+number_none (Err k) e = absurd (omega (arith, number_some k))
+
+pub number_is_ok : (c : Result Unit Cause) → eqb (number_by number c) 0 ≡ is_ok c
+number_is_ok (Ok u) = refl
+number_is_ok (Err k) = ne_eqb (number k) 0 (λ e. absurd (omega (arith, number_some k)))
+
+-- a refusal by a cause has its number
+pub number_with_day : {A : Type 0} (d : Day) (c : Result Unit Cause) (r : A)
+    → number_by (λ r. number r.cause) (with_day d c then Ok r) ≡ number_by number c
+number_with_day d (Ok u) r = refl
+number_with_day d (Err k) r = refl

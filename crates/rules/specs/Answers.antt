@@ -1,45 +1,45 @@
 -- What each call answers, and what every lent area holds afterwards, refused or accepted. Assumes nothing.
-use Rattle.std.specs.Prelude.{List, ℕ, ℤ, pos, length, replicate}
+use Rattle.std.specs.Prelude.{List, Result, Ok, Err, ℕ, ℤ, pos, length, replicate}
+use Rattle.rules.specs.declared.Cause.{Cause}
 use Rattle.rules.specs.declared.Day.{Day}
-use Rattle.rules.specs.declared.OpenAnswer.{OpenAnswer}
-use Rattle.rules.specs.declared.OpenAnswer.TheVariants.{Refused as OpenRefused, Opened}
-use Rattle.rules.specs.declared.ThresholdsAnswer.{ThresholdsAnswer}
-use Rattle.rules.specs.declared.ThresholdsAnswer.TheVariants.{Refused as ThresholdsRefused, Defaults}
-use Rattle.rules.specs.declared.HourAnswer.{HourAnswer}
-use Rattle.rules.specs.declared.HourAnswer.TheVariants.{Refused as HourRefused, Done}
-use Rattle.rules.specs.declared.ClosingAnswer.{ClosingAnswer}
-use Rattle.rules.specs.declared.ClosingAnswer.TheVariants.{Refused as ClosingRefused, Closed}
-use Rattle.rules.specs.Refusals.{by_cause}
+use Rattle.rules.specs.declared.Refusal.{Refusal}
+use Rattle.rules.specs.declared.Thresholds.{Thresholds}
+use Rattle.rules.specs.declared.HourDone.{HourDone}
+use Rattle.rules.specs.declared.ClosingDone.{ClosingDone}
+use Rattle.rules.specs.Refusals.{number, ◌then◌, by_cause}
 use Rattle.rules.specs.Days.{new_day, day_after_hour, day_after_closing, with_part, onto}
 use Rattle.rules.specs.Thresholds.{upper_default, lower_default}
 use Rattle.rules.specs.Hours.{Hour, Closing, before, standing}
 use Rattle.rules.specs.Market.{Imbalance, imbalance, quantities, after, moneys, outcome, sold, bought}
 use Rattle.rules.specs.Causes.{open_cause, thresholds_cause, hour_cause, closing_cause}
 
+-- A refusal of an hour or a closing returns its cause and the record as it was given.
+abbrev pub with_day : Day → Result Unit Cause → Result Unit Refusal
+with_day d (Ok u) = Ok u
+with_day d (Err k) = Err (record { cause = k; day = d })
+
 -- ---- opening: "sets all 256 places to zero and answers a record with no hours done and no zone closed"
-unfoldable pub open_answer : ℤ → ℤ → List ℤ → OpenAnswer
-open_answer n len t = by_cause (open_cause n len t) (Opened (new_day n len)) (OpenRefused (open_cause n len t))
+unfoldable pub open_answer : ℤ → ℤ → List ℤ → Result Day Cause
+open_answer n len t = open_cause n len t then Ok (new_day n len)
 
 unfoldable pub open_table : ℤ → ℤ → List ℤ → List ℤ
 open_table n len t = by_cause (open_cause n len t) (replicate 256 (pos 0)) t
 
 -- ---- default thresholds
-unfoldable pub thresholds_answer : ℤ → ℤ → ThresholdsAnswer
+unfoldable pub thresholds_answer : ℤ → ℤ → Result Thresholds Cause
 thresholds_answer month zone =
-    by_cause (thresholds_cause month zone)
-    (Defaults (record { upper = upper_default month zone; lower = lower_default month zone }))
-    (ThresholdsRefused (thresholds_cause month zone))
+    thresholds_cause month zone
+    then Ok (record { upper = upper_default month zone; lower = lower_default month zone })
 
 -- ---- an hour
 module _ (d : Day) (t : List ℤ) (g : Hour) where
   unfoldable pub hour_imbalance : Imbalance
   hour_imbalance = imbalance g.terms.upper g.terms.lower (before d t g)
 
-  unfoldable pub hour_answer : HourAnswer
+  unfoldable pub hour_answer : Result HourDone Refusal
   hour_answer =
-      by_cause (hour_cause d t g)
-      (Done (record { day = day_after_hour g.terms.zone d; outcome = outcome hour_imbalance (before d t g) }))
-      (HourRefused (record { number = hour_cause d t g; day = d }))
+      with_day d (hour_cause d t g)
+      then Ok (record { day = day_after_hour g.terms.zone d; outcome = outcome hour_imbalance (before d t g) })
 
   -- "the users' places in the zone's part of the table get the positions after"
   unfoldable pub hour_table : List ℤ
@@ -61,11 +61,10 @@ module _ (d : Day) (t : List ℤ) (g : Hour) where
 
 -- ---- a closing
 module _ (d : Day) (t : List ℤ) (g : Closing) where
-  unfoldable pub closing_answer : ClosingAnswer
+  unfoldable pub closing_answer : Result ClosingDone Refusal
   closing_answer =
-      by_cause (closing_cause d t g)
-      (Closed (record { day = day_after_closing g.terms.zone d; sold = sold (standing d t g); bought = bought (standing d t g) }))
-      (ClosingRefused (record { number = closing_cause d t g; day = d }))
+      with_day d (closing_cause d t g)
+      then Ok (record { day = day_after_closing g.terms.zone d; sold = sold (standing d t g); bought = bought (standing d t g) })
 
   -- "The places become zero"
   unfoldable pub closing_table : List ℤ
@@ -81,26 +80,26 @@ module _ (d : Day) (t : List ℤ) (g : Closing) where
       g.money
 
 -- ---- document 01's number of an answer, 0 for no cause, and the record that it returns
-unfoldable pub open_number : OpenAnswer → ℕ
-open_number (OpenRefused k) = k
-open_number (Opened d) = 0
+abbrev pub number_by : {A E : Type 0} → (E → ℕ) → Result A E → ℕ
+number_by of (Ok r) = 0
+number_by of (Err e) = of e
 
-unfoldable pub thresholds_number : ThresholdsAnswer → ℕ
-thresholds_number (ThresholdsRefused k) = k
-thresholds_number (Defaults r) = 0
+unfoldable pub open_number : Result Day Cause → ℕ
+open_number = number_by number
 
-unfoldable pub hour_number : HourAnswer → ℕ
-hour_number (HourRefused r) = r.number
-hour_number (Done r) = 0
+unfoldable pub thresholds_number : Result Thresholds Cause → ℕ
+thresholds_number = number_by number
 
-unfoldable pub hour_day : HourAnswer → Day
-hour_day (HourRefused r) = r.day
-hour_day (Done r) = r.day
+unfoldable pub hour_number : Result HourDone Refusal → ℕ
+hour_number = number_by (λ r. number r.cause)
 
-unfoldable pub closing_number : ClosingAnswer → ℕ
-closing_number (ClosingRefused r) = r.number
-closing_number (Closed r) = 0
+unfoldable pub hour_day : Result HourDone Refusal → Day
+hour_day (Ok r) = r.day
+hour_day (Err r) = r.day
 
-unfoldable pub closing_day : ClosingAnswer → Day
-closing_day (ClosingRefused r) = r.day
-closing_day (Closed r) = r.day
+unfoldable pub closing_number : Result ClosingDone Refusal → ℕ
+closing_number = number_by (λ r. number r.cause)
+
+unfoldable pub closing_day : Result ClosingDone Refusal → Day
+closing_day (Ok r) = r.day
+closing_day (Err r) = r.day

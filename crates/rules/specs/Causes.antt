@@ -1,9 +1,11 @@
 -- "Causes for turning a call away": each a test that holds where its cause does not apply; then the first cause of each call. For 24 in the words of document 01 stands the length of the
 -- day, by document 02: "Causes 2 and 6 read that length in the place of 24, for both zones." Assumes nothing.
-use Rattle.std.specs.Prelude.{Bool, not, ◌&&◌, ◌||◌, List, ℕ, eqb, ℤ, pos, ◌+ℤ◌, length, drop}
+use Rattle.std.specs.Prelude.{Bool, not, ◌&&◌, ◌||◌, List, Result, ℕ, eqb, ℤ, pos, ◌+ℤ◌, length, drop}
 use Rattle.std.specs.Int.Signed.{le_z}
 use Rattle.integers.specs.Ranges.{in_range, equal, is_zero}
 use Rattle.integers.specs.Lists.{sum_ℤ, every}
+use Rattle.rules.specs.declared.Cause.{Cause}
+use Rattle.rules.specs.declared.Cause.TheVariants as cause
 use Rattle.rules.specs.declared.Day.{Day}
 use Rattle.rules.specs.declared.HourTerms.{HourTerms}
 use Rattle.rules.specs.declared.ClosingTerms.{ClosingTerms}
@@ -86,40 +88,40 @@ pooling_adds g = is_zero (sum_ℤ g.pooling)
 unfoldable pub before_fit : Day → List ℤ → Hour → Bool
 before_fit d t g = every position_fit (before d t g)
 
--- ---- the first cause of each call; 0 for none
+-- ---- the first cause of each call, and `Ok tt` for none
 
 -- "Opening uses 1 and 3": 1 is "user count not 1 to 128"; document 02: "21 at opening, after 1 and before 3, if the length is none of these"
-unfoldable pub open_cause : ℤ → ℤ → List ℤ → ℕ
+unfoldable pub open_cause : ℤ → ℤ → List ℤ → Result Unit Cause
 open_cause n len t =
-    unless (users_fit n) 1
-    then unless (length_fit len) 21
-    then unless (table_long t) 3
+    unless (users_fit n) cause.Users
+    then unless (length_fit len) cause.DayLength
+    then unless (table_long t) cause.Lengths
 
 -- "thresholds 4 and 8"
-unfoldable pub thresholds_cause : ℤ → ℤ → ℕ
-thresholds_cause month zone = unless (zone_fit zone) 4 then unless (month_fit month) 8
+unfoldable pub thresholds_cause : ℤ → ℤ → Result Unit Cause
+thresholds_cause month zone = unless (zone_fit zone) cause.Zone then unless (month_fit month) cause.Terms
 
 -- "an hour 2 to 11"
-unfoldable pub hour_cause : Day → List ℤ → Hour → ℕ
+unfoldable pub hour_cause : Day → List ℤ → Hour → Result Unit Cause
 hour_cause d t g =
-    unless (day_fit d) 2
-    then unless (hour_long d t g) 3
-    then unless (zone_fit g.terms.zone) 4
-    then unless (zone_open g.terms.zone d) 5
-    then unless (hour_next d g.terms) 6
-    then unless (table_fit d t) 7
-    then unless (terms_fit g.terms) 8
-    then unless (amounts_fit g) 9
-    then unless (pooling_adds g) 10
-    then unless (before_fit d t g) 11
+    unless (day_fit d) cause.Record
+    then unless (hour_long d t g) cause.Lengths
+    then unless (zone_fit g.terms.zone) cause.Zone
+    then unless (zone_open g.terms.zone d) cause.Closed
+    then unless (hour_next d g.terms) cause.Hour
+    then unless (table_fit d t) cause.Table
+    then unless (terms_fit g.terms) cause.Terms
+    then unless (amounts_fit g) cause.Amounts
+    then unless (pooling_adds g) cause.Pooling
+    then unless (before_fit d t g) cause.Positions
 
 -- "closing 2 to 8"
-unfoldable pub closing_cause : Day → List ℤ → Closing → ℕ
+unfoldable pub closing_cause : Day → List ℤ → Closing → Result Unit Cause
 closing_cause d t g =
-    unless (day_fit d) 2
-    then unless (closing_long d t g) 3
-    then unless (zone_fit g.terms.zone) 4
-    then unless (zone_open g.terms.zone d) 5
-    then unless (all_done d g.terms) 6
-    then unless (table_fit d t) 7
-    then unless (prices_fit g.terms.excess_price g.terms.shortfall_price) 8
+    unless (day_fit d) cause.Record
+    then unless (closing_long d t g) cause.Lengths
+    then unless (zone_fit g.terms.zone) cause.Zone
+    then unless (zone_open g.terms.zone d) cause.Closed
+    then unless (all_done d g.terms) cause.Hour
+    then unless (table_fit d t) cause.Table
+    then unless (prices_fit g.terms.excess_price g.terms.shortfall_price) cause.Terms

@@ -14,7 +14,7 @@ use Rattle.rules.specs.Hours.{amounts, before, standing}
 use Rattle.rules.specs.Market.{imbalance_of, imbalance, total, caused, size, sizes, settled_sizes, signed}
 use Rattle.rules.specs.Market.{quantities, after, money_of, moneys, causers, word, marks, outcome}
 use Rattle.rules.specs.Market.{sold, bought}
-use Rattle.rules.specs.Refusals.{unless, ◌then◌, by_cause}
+use Rattle.rules.specs.Refusals.{by_cause}
 use Rattle.rules.specs.Causes.{zone_day_fit, day_fit, table_long, list_long, scratch_long, hour_long, closing_long, zone_open}
 use Rattle.rules.specs.Causes.{hour_next, all_done, positions_fit, beyond_zero, idle_zero, table_fit, prices_fit, terms_fit}
 use Rattle.rules.specs.Causes.{amounts_fit, pooling_adds, before_fit, open_cause, thresholds_cause, hour_cause, closing_cause}
@@ -40,7 +40,7 @@ unfolding
     imbalance_of imbalance total caused size sizes settled_sizes signed
     quantities after money_of moneys causers word marks outcome
     sold bought
-    unless ◌then◌ by_cause
+    by_cause
     zone_day_fit day_fit table_long list_long scratch_long hour_long closing_long zone_open
     hour_next all_done positions_fit beyond_zero idle_zero table_fit prices_fit terms_fit
     amounts_fit pooling_adds before_fit open_cause thresholds_cause hour_cause closing_cause

@@ -1,14 +1,12 @@
 -- What is proved of the definitions, for every input: the opening, demands 2 and 3, and rules 2 and 3. Statements only; the proofs are in proofs/Guarantees.antt, and the crate
 -- `certificate` asks for each. Assumes nothing.
-use Rattle.std.specs.Prelude.{◌≡◌, Bool, true, false, cond, List, map, ◌↔◌, ◌⊎◌, ℕ, ◌+◌, ◌-◌, ◌*◌, ◌/◌, ◌%◌, ◌^◌, ◌<◌, eqb, ltb, ℤ, pos, nat_abs, ◌+ℤ◌, ◌-ℤ◌, length, get_or, take, replicate, ◌≤ℤ◌, ◌<ℤ◌}
+use Rattle.std.specs.Prelude.{◌≡◌, Bool, true, false, cond, List, Ok, map, ◌↔◌, ◌⊎◌, ℕ, ◌+◌, ◌-◌, ◌*◌, ◌/◌, ◌%◌, ◌^◌, ◌<◌, eqb, ltb, ℤ, pos, nat_abs, ◌+ℤ◌, ◌-ℤ◌, length, get_or, take, replicate, ◌≤ℤ◌, ◌<ℤ◌}
 use Rattle.integers.specs.Ranges.{natural}
 use Rattle.integers.specs.Lists.{sum, sum_ℤ, count}
 use Rattle.rules.specs.declared.Day.{Day}
 use Rattle.rules.specs.declared.Marks.{Marks}
 use Rattle.rules.specs.declared.Side.{Side}
 use Rattle.rules.specs.declared.Side.TheVariants.{Excess, Shortfall}
-use Rattle.rules.specs.declared.OpenAnswer.TheVariants.{Opened}
-use Rattle.rules.specs.declared.HourAnswer.TheVariants.{Done}
 use Rattle.rules.specs.declared.Outcome.{Outcome}
 use Rattle.rules.specs.declared.Outcome.TheVariants.{Within, Settled}
 use Rattle.rules.specs.Limits.{zone_fit, position_fit}
@@ -22,7 +20,7 @@ use Rattle.rules.specs.History.{State, Call, opened, run, first_sum, second_sum,
 -- ---- the opening: "The Gas Day shall be shown to begin at zero, not supposed to."
 abbrev pub BeginsAtZero : Type 0
 BeginsAtZero =
-    (n len : ℤ) (t : List ℤ) (d : Day) → open_answer n len t ≡ Opened d
+    (n len : ℤ) (t : List ℤ) (d : Day) → open_answer n len t ≡ Ok d
     → (open_table n len t ≡ replicate 256 (pos 0)) × ((zone : ℤ) → hours_done zone d ≡ pos 0)
 
 -- ---- the length: "Opening must be told 23, 24 or 25 and the day record keeps it."
@@ -30,7 +28,7 @@ BeginsAtZero =
 -- A day that opening opened is of one of these lengths, and whatever is then called, its record keeps it.
 abbrev pub LengthKept : Type 0
 LengthKept =
-    (n len : ℤ) (t : List ℤ) (d : Day) → open_answer n len t ≡ Opened d
+    (n len : ℤ) (t : List ℤ) (d : Day) → open_answer n len t ≡ Ok d
     → ((len ≡ pos 23) ⊎ ((len ≡ pos 24) ⊎ (len ≡ pos 25)))
     × ((calls : List Call) → hours_of_day (run (opened d n len t) calls).day ≡ len)
 
@@ -70,7 +68,7 @@ AcceptedIfFit =
 -- "shown once for all lengths": of whatever length the opening was told.
 abbrev pub Conservation : Type 0
 Conservation =
-    (n len : ℤ) (t : List ℤ) (d : Day) → open_answer n len t ≡ Opened d
+    (n len : ℤ) (t : List ℤ) (d : Day) → open_answer n len t ≡ Ok d
     → (calls : List Call) (zone : ℤ) → zone_fit zone ≡ true → (user : ℕ) → user < natural n
     → first_sum zone user (opened d n len t) calls
     ≡ second_sum zone user (opened d n len t) calls +ℤ place zone user (run (opened d n len t) calls).table
@@ -86,7 +84,7 @@ ClosedIsZero =
 -- "no zone closed" at the opening, and then "the zone is marked closed": on a day that opening opened, the record marks a zone closed exactly where its closing was accepted.
 abbrev pub ClosedIsMarked : Type 0
 ClosedIsMarked =
-    (n len : ℤ) (t : List ℤ) (d : Day) → open_answer n len t ≡ Opened d
+    (n len : ℤ) (t : List ℤ) (d : Day) → open_answer n len t ≡ Ok d
     → (calls : List Call) (zone : ℤ) → zone_fit zone ≡ true → is_closed zone (run (opened d n len t) calls).day ≡ closes zone (opened d n len t) calls
 
 -- ---- "Whatever record and table an hour is given, once it is accepted the market after it is neither above the upper nor below the lower of that hour's thresholds, a user who did
@@ -135,7 +133,7 @@ pub record OutcomeTells (upper lower m : ℤ) (o : Outcome) : Type 0 where
 -- of any accepted hour: "The market position is the sum over all users."
 abbrev pub OutcomeByThresholds : Type 0
 OutcomeByThresholds =
-    (d : Day) (t : List ℤ) (g : Hour) (d' : Day) (o : Outcome) → hour_answer d t g ≡ Done (record { day = d'; outcome = o })
+    (d : Day) (t : List ℤ) (g : Hour) (d' : Day) (o : Outcome) → hour_answer d t g ≡ Ok (record { day = d'; outcome = o })
     → OutcomeTells g.terms.upper g.terms.lower (sum_ℤ (before d t g)) o
 
 -- ---- rule 3: the marks answered are the causers, and "the number of marks is answered"
@@ -147,6 +145,6 @@ marked m p = eqb (cond (ltb p 64) (m.first / 2 ^ p) (m.second / 2 ^ (p - 64)) % 
 abbrev pub MarksAreCausers : Type 0
 MarksAreCausers =
     (d : Day) (t : List ℤ) (g : Hour) (d' : Day) (side : Side) (m : Marks)
-    → hour_answer d t g ≡ Done (record { day = d'; outcome = Settled side m })
+    → hour_answer d t g ≡ Ok (record { day = d'; outcome = Settled side m })
     → ((p : ℕ) → p < 128 → marked m p ≡ caused (hour_imbalance d t g) (get_or (before d t g) p (pos 0)))
     × (m.number ≡ count (caused (hour_imbalance d t g)) (before d t g))

@@ -1,6 +1,7 @@
 -- What an hour and a closing are given besides the record and the table, fit or unfit; and rule 1. Assumes nothing.
 use Rattle.std.specs.Prelude.{List, ℕ, ℤ, pos, ◌+ℤ◌, get_or, take}
 use Rattle.integers.specs.Lists.{tabulate}
+use Rattle.rules.specs.declared.Amounts.{Amounts}
 use Rattle.rules.specs.declared.Day.{Day}
 use Rattle.rules.specs.declared.HourTerms.{HourTerms}
 use Rattle.rules.specs.declared.ClosingTerms.{ClosingTerms}
@@ -24,9 +25,18 @@ pub record Closing : Type 0 where
   pub money : List ℤ
 
 -- the same from a call's parameters
-abbrev pub hour_given : HourTerms → List ℤ → List ℤ → List ℤ → List ℤ → List ℤ → List ℤ → List ℕ → Hour
-hour_given terms entry exit title pooling quantity money scratch =
-    record { terms = terms; entry = entry; exit = exit; title = title; pooling = pooling; quantity = quantity; money = money; scratch = scratch }
+abbrev pub hour_given : HourTerms → Amounts → List ℤ → List ℤ → List ℕ → Hour
+hour_given terms a quantity money scratch =
+    record {
+      terms = terms;
+      entry = a.entries.now;
+      exit = a.exits.now;
+      title = a.titles.now;
+      pooling = a.poolings.now;
+      quantity = quantity;
+      money = money;
+      scratch = scratch;
+    }
 
 abbrev pub closing_given : ClosingTerms → List ℤ → List ℤ → Closing
 closing_given terms quantity money = record { terms = terms; quantity = quantity; money = money }

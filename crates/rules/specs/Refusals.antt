@@ -1,5 +1,5 @@
 -- "Checked in the order of their numbers; the first that applies is given." Assumes nothing.
-use Rattle.std.specs.Prelude.{Bool, true, false, ℕ, zero, suc}
+use Rattle.std.specs.Prelude.{Bool, true, false, ℕ, Result, Ok, Err}
 use Rattle.rules.specs.declared.Cause.{Cause}
 use Rattle.rules.specs.declared.Cause.TheVariants.{Users, Record, Lengths, Zone, Closed, Hour, Table, Terms, Amounts, Pooling, Positions, DayLength}
 
@@ -18,18 +18,19 @@ number Pooling = 10
 number Positions = 11
 number DayLength = 21
 
+-- A test of a call answers a Result: `Ok tt` where no cause applies, or the cause.
 infixr 20 ◌then◌
--- the cause k unless its test holds; 0 is no cause
-unfoldable pub unless : Bool → ℕ → ℕ
-unless true k = 0
-unless false k = k
+-- the cause k unless its test holds
+abbrev pub unless : {E : Type 0} → Bool → E → Result Unit E
+unless true k = Ok tt
+unless false k = Err k
 
--- the first cause of the two
-unfoldable pub ◌then◌ : ℕ → ℕ → ℕ
-◌then◌ zero k = k
-◌then◌ (suc n) k = suc n
+-- the first cause of the two; and by no cause what the call then answers
+abbrev pub ◌then◌ : {A E : Type 0} → Result Unit E → Result A E → Result A E
+◌then◌ (Ok u) r = r
+◌then◌ (Err k) r = Err k
 
 -- by a cause: the first where there is none, else the second
-unfoldable pub by_cause : {A : Type 0} → ℕ → A → A → A
-by_cause zero accepted refused = accepted
-by_cause (suc k) accepted refused = refused
+unfoldable pub by_cause : {A E : Type 0} → Result Unit E → A → A → A
+by_cause (Ok u) accepted refused = accepted
+by_cause (Err k) accepted refused = refused

@@ -3,7 +3,7 @@
 #![tactic(auto)]
 
 ghost use Rattle.std.specs.Prelude.{◌≡◌};
-ghost use Rattle.rules.specs.Refusals.{number};
+ghost use Rattle.rules.specs.Refusals.{number, unless};
 
 // The causes for turning a call away, each under the papers' words.
 #[derive(Clone, Copy, PartialEq, Eq)]
@@ -56,6 +56,13 @@ impl Cause {
     }
 }
 
+// The test of one cause, for a chain of them: `require(.., Cause::Users)?; require(.., Cause::DayLength)?; ..` gives the first that applies.
+pub fn require<E: Copy>(fits: bool, cause: E) -> Result<(), E>
+    ensures { result ≡ unless fits cause }
+{
+    if fits { Ok(()) } else { Err(cause) }
+}
+
 // Of one zone: the hours done, and whether it is closed.
 #[derive(Clone, Copy, PartialEq, Eq)]
 pub struct ZoneDay {
@@ -85,19 +92,11 @@ impl Day {
     pub const LENGTH_MOST: i64 = 25;
 }
 
-// A refusal: the number of its cause, and the same record.
+// A refusal: its cause, and the same record.
 #[derive(Clone, Copy)]
 pub struct Refusal {
-    pub number: u64,
+    pub cause: Cause,
     pub day: Day,
-}
-
-// ---- opening
-
-#[derive(Clone, Copy)]
-pub enum OpenAnswer {
-    Refused(u64),
-    Opened(Day),
 }
 
 // ---- default thresholds
@@ -108,15 +107,10 @@ pub struct Thresholds {
     pub lower: i64,
 }
 
-#[derive(Clone, Copy)]
-pub enum ThresholdsAnswer {
-    Refused(u64),
-    Defaults(Thresholds),
-}
-
 // ---- an hour
 
-// What an hour is told besides its lists: which hour of which zone, its two thresholds and its two prices.
+// What an hour is told besides its lists: which hour of which zone, its two thresholds and its two prices. The zone stays a number, here and at
+// a closing: C gives any number, and cause 4 is for those that name no zone.
 #[repr(C)]
 #[derive(Clone, Copy)]
 pub struct HourTerms {
@@ -152,6 +146,7 @@ pub struct Marks {
     pub number: u64,
 }
 
+// No Option: the papers name this form ("Hour outcome enum: Within, or Settled holding a Side enum").
 #[derive(Clone, Copy)]
 pub enum Outcome {
     Within,
@@ -162,12 +157,6 @@ pub enum Outcome {
 pub struct HourDone {
     pub day: Day,
     pub outcome: Outcome,
-}
-
-#[derive(Clone, Copy)]
-pub enum HourAnswer {
-    Refused(Refusal),
-    Done(HourDone),
 }
 
 // ---- a closing
@@ -187,10 +176,4 @@ pub struct ClosingDone {
     pub day: Day,
     pub sold: i64,
     pub bought: i64,
-}
-
-#[derive(Clone, Copy)]
-pub enum ClosingAnswer {
-    Refused(Refusal),
-    Closed(ClosingDone),
 }
