@@ -1,6 +1,6 @@
 -- What an accepted hour and an accepted closing may count on: all that the causes rule out. Assumes nothing.
 use mathlib.Core.Path.{◌≡◌, sym, ap, ◌∙◌}
-use mathlib.Core.Bool.{Bool, true, false, ◌&&◌}
+use mathlib.Core.Bool.{true, false, ◌&&◌}
 use mathlib.Core.Logic.{◌⊎◌, inl, inr}
 use mathlib.Core.List.{List}
 use Prim.Native.Nat.{ℕ, ◌≤◌, ◌<◌}
@@ -11,70 +11,49 @@ use lib.Dec.{leb}
 use lib.IntN.{ℤ, pos, negsuc, neg_ℤ}
 use lib.ListN.{length}
 use lib.Signed.{le_z}
-use Rattle.std.specs.Prelude.{Result, Ok}
+use Rattle.std.specs.Prelude.{Ok}
 use Rattle.integers.specs.Lists.{every}
 use Rattle.integers.proofs.Passes.{every_take, every_drop}
 use Rattle.integers.specs.Ranges.{natural}
 use Rattle.integers.proofs.Linear.{not_both}
 use Rattle.integers.proofs.Tests.{and_true}
-use Rattle.rules.specs.declared.Cause.{Cause}
-use Rattle.rules.specs.declared.Cause.TheVariants as cause
 use Rattle.rules.specs.declared.Day.{Day}
 use Rattle.rules.specs.declared.HourTerms.{HourTerms}
 use Rattle.rules.specs.Limits.{length_least, length_most, threshold_most, users_fit, length_fit, zone_fit, position_fit, upper_fit, lower_fit}
 use Rattle.rules.specs.Days.{users, is_closed, first_place, part}
 use Rattle.rules.specs.Hours.{Hour, Closing}
-use Rattle.rules.specs.Causes.{hour_cause, closing_cause, day_fit, table_long, list_long, scratch_long, hour_long, closing_long, zone_open, positions_fit, table_fit, terms_fit}
-use Rattle.rules.specs.Refusals.{number, unless, ◌then◌}
+use Rattle.rules.specs.Causes.{hour_cause, closing_cause, day_fit, table_long, list_long, scratch_long, hour_long, closing_long, zone_open, hour_next, all_done, positions_fit, table_fit, prices_fit, terms_fit, amounts_fit, pooling_adds, before_fit}
+use Rattle.rules.specs.Refusals.{number}
 use Rattle.rules.specs.Answers.{hour_answer, hour_number, closing_answer, closing_number, number_by}
 use Rattle.rules.specs.Guarantees.{HourFit, ClosingFit}
-use Rattle.rules.proofs.Refusing.{unless_none, then_none, number_none, number_with_day}
+use Rattle.rules.proofs.Refusing.{unless_none, required, number_none, number_with_day}
 use Rattle.rules.proofs.Zones.{Zone, zone_of_lem}
-
--- ---- what an hour and a closing test first, in the same order
-record FirstTests (day long zoned open' : Bool) (rest : Result Unit Cause) : Type 0 where
-  day_fits_lem : day ≡ true
-  lengths : long ≡ true
-  zone : zoned ≡ true
-  is_open : open' ≡ true
-  later : rest ≡ Ok tt
-
-first_tests : {day long zoned open' : Bool} {rest : Result Unit Cause}
-    → (unless day cause.Record then unless long cause.Lengths then unless zoned cause.Zone then unless open' cause.Closed then rest) ≡ Ok tt
-    → FirstTests day long zoned open' rest
-first_tests k2 =
-    let k3 = (then_none k2).1 in
-    let k4 = (then_none k3).1 in
-    let k5 = (then_none k4).1 in
-    record {
-      day_fits_lem = unless_none _ _ (then_none k2).0;
-      lengths = unless_none _ _ (then_none k3).0;
-      zone = unless_none _ _ (then_none k4).0;
-      is_open = unless_none _ _ (then_none k5).0;
-      later = (then_none k5).1;
-    }
 
 -- ---- an hour is accepted if and only if no listed cause exists
 module _ (d : Day) (t : List ℤ) (g : Hour) where
   pub hour_fit_lem : hour_cause d t g ≡ Ok tt → HourFit d t g
   unfolding hour_cause
-  hour_fit_lem k =
-      let f = first_tests k in
-      let k7 = (then_none f.later).1 in
-      let k8 = (then_none k7).1 in
-      let k9 = (then_none k8).1 in
-      let k10 = (then_none k9).1 in
+  hour_fit_lem none =
+      let (day, n3) = required (day_fit d) _ _ none in
+      let (lengths, n4) = required (hour_long d t g) _ _ n3 in
+      let (zone, n5) = required (zone_fit g.terms.zone) _ _ n4 in
+      let (open', n6) = required (zone_open g.terms.zone d) _ _ n5 in
+      let (next, n7) = required (hour_next d g.terms) _ _ n6 in
+      let (table, n8) = required (table_fit d t) _ _ n7 in
+      let (terms, n9) = required (terms_fit g.terms) _ _ n8 in
+      let (amounts, n10) = required (amounts_fit g) _ _ n9 in
+      let (pooling, n11) = required (pooling_adds g) _ _ n10 in
       record {
-        day = f.day_fits_lem;
-        lengths = f.lengths;
-        zone = f.zone;
-        open' = f.is_open;
-        next = unless_none _ _ (then_none f.later).0;
-        table = unless_none _ _ (then_none k7).0;
-        terms = unless_none _ _ (then_none k8).0;
-        amounts = unless_none _ _ (then_none k9).0;
-        pooling = unless_none _ _ (then_none k10).0;
-        positions = unless_none _ _ (then_none k10).1;
+        day = day;
+        lengths = lengths;
+        zone = zone;
+        open' = open';
+        next = next;
+        table = table;
+        terms = terms;
+        amounts = amounts;
+        pooling = pooling;
+        positions = unless_none (before_fit d t g) _ n11;
       }
 
   pub fit_hour : HourFit d t g → hour_cause d t g ≡ Ok tt
@@ -92,17 +71,21 @@ module _ (d : Day) (t : List ℤ) (g : Hour) where
 module _ (d : Day) (t : List ℤ) (g : Closing) where
   pub closing_fit : closing_cause d t g ≡ Ok tt → ClosingFit d t g
   unfolding closing_cause
-  closing_fit k =
-      let f = first_tests k in
-      let k7 = (then_none f.later).1 in
+  closing_fit none =
+      let (day, n3) = required (day_fit d) _ _ none in
+      let (lengths, n4) = required (closing_long d t g) _ _ n3 in
+      let (zone, n5) = required (zone_fit g.terms.zone) _ _ n4 in
+      let (open', n6) = required (zone_open g.terms.zone d) _ _ n5 in
+      let (done, n7) = required (all_done d g.terms) _ _ n6 in
+      let (table, n8) = required (table_fit d t) _ _ n7 in
       record {
-        day = f.day_fits_lem;
-        lengths = f.lengths;
-        zone = f.zone;
-        open' = f.is_open;
-        done = unless_none _ _ (then_none f.later).0;
-        table = unless_none _ _ (then_none k7).0;
-        prices = unless_none _ _ (then_none k7).1;
+        day = day;
+        lengths = lengths;
+        zone = zone;
+        open' = open';
+        done = done;
+        table = table;
+        prices = unless_none (prices_fit g.terms.excess_price g.terms.shortfall_price) _ n8;
       }
 
   pub fit_closing : ClosingFit d t g → closing_cause d t g ≡ Ok tt

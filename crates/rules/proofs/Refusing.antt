@@ -27,6 +27,11 @@ pub then_none : {A E : Type 0} {c : Result Unit E} {r : Result A E} {a : A} → 
 then_none {c = Ok u} e = (refl, e)
 then_none {c = Err k} e = absurd (not_refused e)
 
+-- a test that was required held
+pub required : {A E : Type 0} (b : Bool) (k : E) (r : Result A E) {a : A} → (unless b k then r) ≡ Ok a → (b ≡ true) × (r ≡ Ok a)
+required true k r e = (refl, e)
+required false k r e = absurd (not_refused e)
+
 -- a call has no cause, or one
 pub cause_of : {E : Type 0} (c : Result Unit E) → (c ≡ Ok tt) ⊎ ((k : E) × (c ≡ Err k))
 cause_of (Ok u) = inl refl

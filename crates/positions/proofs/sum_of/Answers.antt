@@ -7,16 +7,16 @@ use borrow.Author.Rules.{rules}
 use native.Mathlib.Omega.{arith}
 use Rattle.positions.proofs.sum_of.Goals as goal
 
-pub loop-i-init : goal.loop-i-init
+pub loop-amount-init : goal.loop-amount-init
 unfolding sum_ℤ
-loop-i-init c = search rules
+loop-amount-init c = search rules
 
 pub overflow_add-sum : goal.overflow_add-sum
 overflow_add-sum c =
-    let l = c.loop-i in
-    added-fits c.args.amounts.now l.i l.sum-bits _ l.invariant.1 (back _ (search rules)) position_most c.requires.1 (omega arith)
+    let l = c.loop-amount in
+    added-fits c.args.amounts.now l.amount-index l.sum-bits _ l.invariant (back _ (search rules)) position_most c.requires.1 (omega arith)
 
-pub loop-i-preserved : goal.loop-i-preserved
-loop-i-preserved c =
-    let l = c.loop-i in
-    (omega arith, added_next _ l.i l.sum-bits _ l.invariant.1 (back _ (search rules)) c.loop-i-test.true (overflow_add-sum c))
+pub loop-amount-preserved : goal.loop-amount-preserved
+loop-amount-preserved c =
+    let l = c.loop-amount in
+    added_next _ l.amount-index l.sum-bits _ l.invariant (back _ (search rules)) c.loop-amount-test.true (overflow_add-sum c)
