@@ -24,19 +24,13 @@ pub record Closing : Type 0 where
   pub quantity : List ℤ
   pub money : List ℤ
 
--- the same from a call's parameters
+-- the same from a call's parameters, the amounts as four lists, as C gives them, or as one struct
+abbrev pub hour_listed : HourTerms → List ℤ → List ℤ → List ℤ → List ℤ → List ℤ → List ℤ → List ℕ → Hour
+hour_listed terms entry exit title pooling quantity money scratch =
+    record { terms = terms; entry = entry; exit = exit; title = title; pooling = pooling; quantity = quantity; money = money; scratch = scratch }
+
 abbrev pub hour_given : HourTerms → Amounts → List ℤ → List ℤ → List ℕ → Hour
-hour_given terms a quantity money scratch =
-    record {
-      terms = terms;
-      entry = a.entries.now;
-      exit = a.exits.now;
-      title = a.titles.now;
-      pooling = a.poolings.now;
-      quantity = quantity;
-      money = money;
-      scratch = scratch;
-    }
+hour_given terms a quantity money scratch = hour_listed terms a.entries.now a.exits.now a.titles.now a.poolings.now quantity money scratch
 
 abbrev pub closing_given : ClosingTerms → List ℤ → List ℤ → Closing
 closing_given terms quantity money = record { terms = terms; quantity = quantity; money = money }
