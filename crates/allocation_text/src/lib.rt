@@ -22,7 +22,8 @@ fn letter(zone: u32) -> u8
     if zone == 0 { b'H' } else { b'L' }
 }
 
-// How many bytes a row's line has: its numbers, the zone's letter, six commas and the line's end.
+// How many bytes a row's line has: its numbers, the zone's letter, six commas and the line's end. (`as`, here and below, only widens: `u64::from` is
+// a call, whose equation each answer after it would have to carry on, and says no more.)
 pub fn line_length(row: Row) -> usize
     ensures { (result ≡ length (line_text row ++ line_end)) × (result ≤ line_most) }
 {
@@ -34,6 +35,7 @@ pub fn line_length(row: Row) -> usize
     numbers + amounts + 9
 }
 
+// `out` and `at` stay two parameters, as in `text::writing`: of a struct with a `&mut` no clause can say that the bytes that come back are those lent.
 fn write_start(out: &mut [u8], at: usize, row: Row) -> usize
     requires { at + length (start_text row) ≤ length out.old }
     ensures { Put out.old at (start_text row) out.new result }

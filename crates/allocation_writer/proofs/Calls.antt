@@ -1,66 +1,57 @@
 -- What the tests of the causes leave to count on, and the call's contract at each of its ends. Assumes nothing.
 use mathlib.Core.Path.{◌≡◌, sym, ap, ◌∙◌}
-use mathlib.Core.Bool.{true, false}
+use mathlib.Core.Bool.{true}
 use mathlib.Core.List.{List, [], ◌∷◌, append-nil}
-use Prim.Native.Nat.{ℕ, ◌+◌, ◌^◌, ◌<◌}
+use Prim.Native.Nat.{ℕ, ◌+◌, ◌≤◌}
 use native.Mathlib.Omega.{arith}
-use lib.IntN.{pos, nat_abs}
+use borrow.Author.Tests.{leb-true}
+use lib.IntN.{ℤ, pos}
 use lib.ListN.{length}
-use borrow.Author.Tests.{le-leb, lt-leb}
-use Rattle.integers.specs.Ranges.{natural}
-use Rattle.rules.specs.Refusals.{unless, ◌then◌, by_cause}
+use Rattle.std.specs.Prelude.{Ok, Err}
+use Rattle.rules.proofs.Refusing.{unless_none, then_none, by_none, by_some}
 use Rattle.text.specs.Puts.{Put}
 use Rattle.text.proofs.Puts.{together}
 use Rattle.allocation_file.specs.File.{header}
-use Rattle.allocation_writer.specs.declared.WriteAnswer.TheVariants.{Refused, Written}
-use Rattle.allocation_writer.specs.Writer.{Content, rows_of, file_text, text_of, count_fit, numbers_fit}
+use Rattle.allocation_writer.specs.declared.WriteCause.{WriteCause}
+use Rattle.allocation_writer.specs.Writer.{Content, file_text, text_of, count_fit, numbers_fit}
 use Rattle.allocation_writer.specs.Writer.{room_for, write_cause, write_answer, written_file, WriteHour}
-use Rattle.allocation_writer.specs.Steps.{Lists, lines_text}
-use Rattle.allocation_writer.proofs.Tests.{counted_means, fitting_means}
+use Rattle.allocation_writer.specs.Steps.{lines_text}
 
--- ---- what the tests leave to count on
-module _ (w : Content) (e : count_fit w ≡ true) where
-  pub lists : Lists w.entry w.exit w.title w.pooling
-  lists =
-      let c = counted_means w e in
-      record {
-        exits = c.exit ∙ sym c.entry;
-        titles = c.title ∙ sym c.entry;
-        poolings = c.pooling ∙ sym c.entry;
-        users = omega (arith, c.entry, c.few);
-      }
+module _ (w : Content) where
+  -- the text is the header and the lines
+  pub text_parts : text_of w ≡ together (header ∷ lines_text w ∷ [])
+  unfolding text_of file_text lines_text
+  text_parts = rw append-nil
 
-  -- the text is the header and the lines of the lists
-  pub text_parts : {h z : ℕ} → h ≡ natural w.hour → z ≡ natural w.zone
-      → text_of w ≡ together (header ∷ lines_text h z w.entry w.exit w.title w.pooling ∷ [])
-  unfolding text_of file_text rows_of lines_text
-  text_parts p q = rw (p, q, append-nil, (counted_means w e).entry)
+  pub text_long : length (text_of w) ≡ 25 + length (lines_text w)
+  text_long = rw text_parts (rw (append-nil (lines_text w)) (omega arith))
 
-pub text_long : {text : List ℕ} (lines : List ℕ) {n : ℕ} → text ≡ together (header ∷ lines ∷ []) → n ≡ length lines → length text ≡ 25 + n
-text_long lines e k = ap length e ∙ rw (append-nil lines) (omega (arith, k))
+  module _ (file : List ℕ) where
+    -- no cause: each test holds
+    pub record Accepted : Type 0 where
+      pub counts : count_fit w ≡ true
+      pub numbers : numbers_fit w ≡ true
+      pub room : length (text_of w) ≤ length file
 
-pub hour_small : (w : Content) → numbers_fit w ≡ true → natural w.hour < 10 ^ 9
-hour_small w e = let f = fitting_means w e in omega (arith, f.short, ap nat_abs f.hour)
+    pub accepts : write_cause w file ≡ Ok tt → Accepted
+    unfolding write_cause room_for
+    accepts e =
+        let p = then_none e in
+        let q = then_none p.1 in
+        record {
+          counts = unless_none _ _ p.0;
+          numbers = unless_none _ _ q.0;
+          room = leb-true _ _ (unless_none _ _ q.1);
+        }
 
--- ---- the ends of the call
-module _ (w : Content) (file : List ℕ) where
-  pub refused_18 : count_fit w ≡ false → WriteHour w file (Refused 18) file
-  unfolding unless ◌then◌ by_cause write_cause write_answer written_file
-  refused_18 e = record { answer = rw e; bytes = rw e }
+    -- ---- the ends of the call
+    pub refused : {k : WriteCause} → write_cause w file ≡ Err k → WriteHour w file (Err k) file
+    unfolding write_answer written_file
+    refused e = record { answer = rw e; bytes = sym (by_some _ _ _ e) }
 
-  module _ (e : count_fit w ≡ true) where
-    pub refused_19 : numbers_fit w ≡ false → WriteHour w file (Refused 19) file
-    unfolding unless ◌then◌ by_cause write_cause write_answer written_file
-    refused_19 f = record { answer = rw (e, f); bytes = rw (e, f) }
-
-    module _ (f : numbers_fit w ≡ true) where
-      pub refused_20 : length file < length (text_of w) → WriteHour w file (Refused 20) file
-      unfolding unless ◌then◌ by_cause room_for write_cause write_answer written_file
-      refused_20 h = let g = lt-leb _ _ h in record { answer = rw (e, f, g); bytes = rw (e, f, g) }
-
-      pub accepted : {file' : List ℕ} {r : ℕ} → Put file 0 (text_of w) file' r → WriteHour w file (Written (pos r)) file'
-      unfolding unless ◌then◌ by_cause room_for write_cause write_answer written_file
-      accepted p =
-          let z : 0 + length (text_of w) ≡ length (text_of w) = omega arith in
-          let g = le-leb (length (text_of w)) (length file) (omega (arith, p.room)) in
-          record { answer = rw (e, f, g) (ap (λ n. Written (pos n)) (p.ends ∙ z)); bytes = rw (e, f, g, ← z) p.bytes }
+    -- r bytes are written, and x is their number
+    pub written : {file' : List ℕ} {r : ℕ} {x : ℤ} → write_cause w file ≡ Ok tt → Put file 0 (text_of w) file' r → x ≡ pos r → WriteHour w file (Ok x) file'
+    unfolding write_answer written_file
+    written e p q =
+        let z : 0 + length (text_of w) ≡ length (text_of w) = omega arith in
+        record { answer = rw e (ap Ok (q ∙ ap pos (p.ends ∙ z))); bytes = rw (by_none _ _ _ e, ← z) p.bytes }

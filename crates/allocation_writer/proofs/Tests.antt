@@ -2,7 +2,7 @@
 use mathlib.Core.Path.{◌≡◌, refl, sym}
 use mathlib.Core.Bool.{Bool, true, ◌&&◌}
 use mathlib.Core.Logic.{◌↔◌}
-use Prim.Native.Nat.{ℕ, ◌^◌, ◌≤◌, ◌<◌}
+use Prim.Native.Nat.{ℕ, ◌^◌, ◌<◌}
 use native.Mathlib.Nat.{pow-le-pow_right, lt_of_lt_of_le}
 use native.Mathlib.Omega.{arith}
 use lib.Dec.{lit<}
@@ -10,15 +10,15 @@ use lib.IntN.{ℤ, pos, negsuc, nat_abs}
 use lib.ListN.{length}
 use lib.Signed.{le_z}
 use borrow.Author.Tests.{leb-true, le-leb, eqb-true}
-use Rattle.integers.specs.Lists.{every}
 use Rattle.integers.specs.Ranges.{natural}
 use Rattle.integers.proofs.Linear.{not_both}
 use Rattle.integers.proofs.Tests.{and_true, both_true}
-use Rattle.rules.specs.Limits.{users_most, users_fit, zone_fit}
+use Rattle.rules.specs.Limits.{users_fit, zone_fit}
 use Rattle.rules.proofs.Accepted.{users_range}
 use Rattle.ranges.proofs.Lookup.{row_fits}
 use Rattle.text.specs.Decimals.{digits}
 use Rattle.text.proofs.Decimals.{digits-length, digits-size}
+use Rattle.allocation_writer.specs.Steps.{Counted, Fitting, Tested}
 use Rattle.allocation_writer.specs.Writer.{Content, of_count, lists_fit, count_fit, nine_digits, hour_fit, amounts_short, numbers_fit}
 
 -- two tests that hold
@@ -32,17 +32,6 @@ is_natural n (pos m) e = refl
 is_natural n (negsuc m) e = not_both (sym e)
 
 -- ---- 18
-pub record Counted (w : Content) : Type 0 where
-  pub users : pos (natural w.users) ≡ w.users
-  pub some : 1 ≤ natural w.users
-  pub few : natural w.users ≤ users_most
-  pub zone : pos (natural w.zone) ≡ w.zone
-  pub zones : natural w.zone ≤ 1
-  pub entry : length w.entry ≡ natural w.users
-  pub exit : length w.exit ≡ natural w.users
-  pub title : length w.title ≡ natural w.users
-  pub pooling : length w.pooling ≡ natural w.users
-
 pub counted_means : (w : Content) → count_fit w ≡ true → Counted w
 unfolding users_fit zone_fit of_count lists_fit count_fit
 counted_means w e =
@@ -73,14 +62,6 @@ pub means_nine : (x : ℤ) → nat_abs x < 10 ^ 9 → nine_digits x ≡ true
 unfolding nine_digits
 means_nine x h = le-leb _ _ (digits-length 8 (nat_abs x) h)
 
-pub record Fitting (w : Content) : Type 0 where
-  pub hour : pos (natural w.hour) ≡ w.hour
-  pub short : nat_abs w.hour < 10 ^ 9
-  pub entry : every nine_digits w.entry ≡ true
-  pub exit : every nine_digits w.exit ≡ true
-  pub title : every nine_digits w.title ≡ true
-  pub pooling : every nine_digits w.pooling ≡ true
-
 pub fitting_means : (w : Content) → numbers_fit w ≡ true → Fitting w
 unfolding hour_fit amounts_short numbers_fit
 fitting_means w e =
@@ -93,3 +74,7 @@ fitting_means w e =
       title = t.1.1.1.0;
       pooling = t.1.1.1.1;
     }
+
+-- ---- both
+pub tested : {w : Content} → count_fit w ≡ true → numbers_fit w ≡ true → Tested w
+tested {w} e f = (counted_means w e, fitting_means w f)

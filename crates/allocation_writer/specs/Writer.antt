@@ -1,8 +1,9 @@
 -- The text of an hour's file, and the call that writes it. Assumes nothing.
-use Rattle.std.specs.Prelude.{ℕ, ◌≡◌, Bool, ◌&&◌, List, [], ◌∷◌, ◌++◌, map, eqb, leb, ℤ, pos, nat_abs, length, get_or, drop}
+use Rattle.std.specs.Prelude.{ℕ, ◌≡◌, Bool, ◌&&◌, List, [], ◌∷◌, ◌++◌, map, eqb, leb, ℤ, pos, nat_abs, length, get_or, drop, Result, Ok}
 use Rattle.std.specs.Int.Signed.{le_z}
 use Rattle.integers.specs.Lists.{every, tabulate}
 use Rattle.integers.specs.Ranges.{natural}
+use Rattle.rules.specs.declared.Amounts.{Amounts}
 use Rattle.rules.specs.Limits.{users_fit, zone_fit}
 use Rattle.rules.specs.Refusals.{unless, ◌then◌, by_cause}
 use Rattle.text.specs.Bytes.{line_end}
@@ -10,8 +11,8 @@ use Rattle.text.specs.Decimals.{digits}
 use Rattle.allocation_row.specs.declared.Row.{Row}
 use Rattle.allocation_file.specs.File.{header}
 use Rattle.allocation_text.specs.Text.{line_text}
-use Rattle.allocation_writer.specs.declared.WriteAnswer.{WriteAnswer}
-use Rattle.allocation_writer.specs.declared.WriteAnswer.TheVariants.{Refused, Written}
+use Rattle.allocation_writer.specs.declared.WriteCause.{WriteCause}
+use Rattle.allocation_writer.specs.declared.WriteCause.TheVariants.{Counts, Digits, Room}
 
 -- what is to be written: "hour, zone, user count and four lists"
 pub record Content : Type 0 where
@@ -23,27 +24,35 @@ pub record Content : Type 0 where
   pub title : List ℤ
   pub pooling : List ℤ
 
-abbrev pub content : ℤ → ℤ → ℤ → List ℤ → List ℤ → List ℤ → List ℤ → Content
-content h z n a b c d = record { hour = h; zone = z; users = n; entry = a; exit = b; title = c; pooling = d }
+-- the same from the call's parameters
+abbrev pub content : ℤ → ℤ → ℤ → Amounts → Content
+content h z n a = record {
+  hour = h;
+  zone = z;
+  users = n;
+  entry = a.entries.now;
+  exit = a.exits.now;
+  title = a.titles.now;
+  pooling = a.poolings.now;
+}
 
 -- ---- the text
 
 -- the row at place k
-unfoldable pub row_at : ℕ → ℕ → List ℤ → List ℤ → List ℤ → List ℤ → ℕ → Row
-row_at h z a b c d k = record {
-  hour = h;
-  zone = z;
+unfoldable pub row_at : Content → ℕ → Row
+row_at w k = record {
+  hour = natural w.hour;
+  zone = natural w.zone;
   place = k;
-  entry = get_or a k (pos 0);
-  exit = get_or b k (pos 0);
-  title = get_or c k (pos 0);
-  pooling = get_or d k (pos 0);
+  entry = get_or w.entry k (pos 0);
+  exit = get_or w.exit k (pos 0);
+  title = get_or w.title k (pos 0);
+  pooling = get_or w.pooling k (pos 0);
 }
 
 -- "g runs 0, 1, 2 and on": a row for each user
 unfoldable pub rows_of : Content → List Row
-rows_of w =
-    tabulate (row_at (natural w.hour) (natural w.zone) w.entry w.exit w.title w.pooling) (natural w.users)
+rows_of w = tabulate (row_at w) (natural w.users)
 
 -- "Every line ends in CR LF"
 unfoldable pub ended : List (List ℕ) → List ℕ
@@ -63,11 +72,11 @@ text_of w = file_text (rows_of w)
 unfoldable pub of_count : ℤ → List ℤ → Bool
 of_count users xs = eqb (length xs) (natural users)
 
-unfoldable pub lists_fit : ℤ → List ℤ → List ℤ → List ℤ → List ℤ → Bool
-lists_fit users a b c d = of_count users a && (of_count users b && (of_count users c && of_count users d))
+unfoldable pub lists_fit : Content → Bool
+lists_fit w = of_count w.users w.entry && (of_count w.users w.exit && (of_count w.users w.title && of_count w.users w.pooling))
 
 unfoldable pub count_fit : Content → Bool
-count_fit w = users_fit w.users && (zone_fit w.zone && lists_fit w.users w.entry w.exit w.title w.pooling)
+count_fit w = users_fit w.users && (zone_fit w.zone && lists_fit w)
 
 -- 19: "if the hour or an amount has more than nine digits or the hour is negative"
 unfoldable pub nine_digits : ℤ → Bool
@@ -76,30 +85,37 @@ nine_digits x = leb (length (digits (nat_abs x))) 9
 unfoldable pub hour_fit : ℤ → Bool
 hour_fit hour = nine_digits hour && le_z (pos 0) hour
 
-unfoldable pub amounts_short : List ℤ → List ℤ → List ℤ → List ℤ → Bool
-amounts_short a b c d = every nine_digits a && (every nine_digits b && (every nine_digits c && every nine_digits d))
+unfoldable pub amounts_short : Content → Bool
+amounts_short w = every nine_digits w.entry && (every nine_digits w.exit && (every nine_digits w.title && every nine_digits w.pooling))
 
 unfoldable pub numbers_fit : Content → Bool
-numbers_fit w = hour_fit w.hour && amounts_short w.entry w.exit w.title w.pooling
+numbers_fit w = hour_fit w.hour && amounts_short w
 
 -- 20: "if the lent bytes are too few"
 unfoldable pub room_for : Content → List ℕ → Bool
 room_for w file = leb (length (text_of w)) (length file)
 
-unfoldable pub write_cause : Content → List ℕ → ℕ
-write_cause w file = unless (count_fit w) 18 then unless (numbers_fit w) 19 then unless (room_for w file) 20
+-- the number of each
+abbrev pub number : WriteCause → ℕ
+number Counts = 18
+number Digits = 19
+number Room = 20
+
+-- the first that applies, and `Ok tt` for none
+unfoldable pub write_cause : Content → List ℕ → Result Unit WriteCause
+write_cause w file = unless (count_fit w) Counts then unless (numbers_fit w) Digits then unless (room_for w file) Room
 
 -- ---- the call
 
 -- document 01: "a refusal returns the number"; "an accepted call that writes bytes answers how many"
-unfoldable pub write_answer : Content → List ℕ → WriteAnswer
-write_answer w file = by_cause (write_cause w file) (Written (pos (length (text_of w)))) (Refused (write_cause w file))
+unfoldable pub write_answer : Content → List ℕ → Result ℤ WriteCause
+write_answer w file = write_cause w file then Ok (pos (length (text_of w)))
 
 -- document 01: "and the lent bytes after them are as they were"; after a refusal "everything lent is as it was"
 unfoldable pub written_file : Content → List ℕ → List ℕ
 written_file w file = by_cause (write_cause w file) (text_of w ++ drop (length (text_of w)) file) file
 
 -- the call's contract: the answer r, and the bytes lent after it
-pub record WriteHour (w : Content) (file : List ℕ) (r : WriteAnswer) (file' : List ℕ) : Type 0 where
+pub record WriteHour (w : Content) (file : List ℕ) (r : Result ℤ WriteCause) (file' : List ℕ) : Type 0 where
   pub answer : r ≡ write_answer w file
   pub bytes : file' ≡ written_file w file

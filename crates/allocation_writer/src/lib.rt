@@ -4,158 +4,179 @@
 
 ghost use Rattle.std.specs.Prelude.{◌≡◌, ◌+◌, ◌*◌, ◌≤◌, ◌<◌, length};
 ghost use Rattle.integers.specs.Lists.{every};
+ghost use Rattle.integers.specs.Ranges.{natural};
 ghost use Rattle.rules.specs.Limits.{users_most};
 ghost use Rattle.text.specs.Puts.{Put};
 ghost use Rattle.allocation_text.specs.Steps.{line_most};
 ghost use Rattle.allocation_writer.specs.Writer.{
+  number,
   content,
   row_at,
   lists_fit,
+  count_fit,
   nine_digits,
   hour_fit,
   amounts_short,
+  numbers_fit,
+  room_for,
+  write_cause,
   WriteHour,
 };
-ghost use Rattle.allocation_writer.specs.Steps.{Lists, lines_text};
+ghost use Rattle.allocation_writer.specs.Steps.{content_of, Tested, lines_text};
 
 use allocation_file::HEADER;
 use allocation_row::Row;
 use allocation_text::{line_length, write_line};
-use integers::{both, same};
+use rules::{Amounts, require};
 use text::writing::{digit_count, write_bytes};
 
-// The cause of a refusal, 18 to 20, or how many bytes were written.
-#[derive(Clone, Copy)]
-pub enum WriteAnswer {
-    Refused(u64),
-    Written(i64),
+// The causes for turning the call away, each under the papers' words.
+#[derive(Clone, Copy, PartialEq, Eq)]
+pub enum WriteCause {
+    // "if the count is not 1 to 128, the zone not 0 or 1, or a list is not of the count's length"
+    Counts,
+    // "if the hour or an amount has more than nine digits or the hour is negative"
+    Digits,
+    // "if the lent bytes are too few"
+    Room,
 }
 
-// ---- the tests of causes 18 and 19
-
-// Whether each list has the count's length.
-fn lists_fit(users: i64, entry: &[i64], exit: &[i64], title: &[i64], pooling: &[i64]) -> bool
-    ensures { result ≡ lists_fit users
-        entry.now exit.now title.now pooling.now }
-{
-    let n = integers::natural(users);
-    let transfers = both(same(title.len(), n), same(pooling.len(), n));
-    both(same(entry.len(), n), both(same(exit.len(), n), transfers))
+impl WriteCause {
+    // The papers' number.
+    pub fn number(self) -> u64
+        ensures { result ≡ number self }
+    {
+        match self {
+            WriteCause::Counts => 18,
+            WriteCause::Digits => 19,
+            WriteCause::Room => 20,
+        }
+    }
 }
 
 // Whether a number has at most nine digits. The size of every number fits, also that of the least.
+#[tactic(auto, unfolding(crate::specs::Writer::nine_digits))]
 fn nine_digits(value: i64) -> bool
     ensures { result ≡ nine_digits value }
 {
-    digit_count(integers::magnitude(value)) <= 9
+    digit_count(value.unsigned_abs()) <= 9
 }
 
 fn all_nine_digits(list: &[i64]) -> bool
     ensures { result ≡ every nine_digits list.now }
 {
-    let mut fit = true;
-    let mut i: usize = 0;
-    while i < list.len() {
-        fit = both(fit, nine_digits(list[i]));
-        i += 1;
+    list.iter().all(|x| nine_digits(*x))
+}
+
+// What the call is given to write: "hour, zone, user count and four lists".
+#[derive(Clone, Copy)]
+struct HourFile<'a> {
+    hour: i64,
+    zone: i64,
+    users: i64,
+    amounts: &'a Amounts<'a>,
+}
+
+impl HourFile<'_> {
+    // ---- the tests of causes 18 and 19
+
+    // Whether each list has the count's length.
+    #[tactic(auto, unfolding(crate::specs::Writer::of_count, crate::specs::Writer::lists_fit))]
+    fn lists_fit(&self) -> bool
+        ensures { result ≡ lists_fit (content_of self.now) }
+    {
+        let n = integers::natural(self.users);
+        let a = self.amounts;
+        a.entries.len() == n && a.exits.len() == n && a.titles.len() == n && a.poolings.len() == n
     }
-    fit
-}
 
-fn hour_fits(hour: i64) -> bool
-    ensures { result ≡ hour_fit hour }
-{
-    both(nine_digits(hour), integers::at_most(0, hour))
-}
-
-fn amounts_fit(entry: &[i64], exit: &[i64], title: &[i64], pooling: &[i64]) -> bool
-    ensures { result ≡ amounts_short entry.now exit.now title.now pooling.now }
-{
-    let transfers = both(all_nine_digits(title), all_nine_digits(pooling));
-    both(
-        all_nine_digits(entry),
-        both(all_nine_digits(exit), transfers),
-    )
-}
-
-// ---- the lines
-
-// The row at a place of the four lists.
-fn row_at(
-    hour: u32,
-    zone: u32,
-    place: usize,
-    entry: &[i64],
-    exit: &[i64],
-    title: &[i64],
-    pooling: &[i64],
-) -> Row
-    requires { Lists entry.now exit.now title.now pooling.now × (place < length entry.now) }
-    ensures { result ≡ row_at hour zone
-        entry.now exit.now title.now pooling.now place }
-{
-    Row {
-        hour,
-        zone,
-        place: place as u32,
-        entry: entry[place],
-        exit: exit[place],
-        title: title[place],
-        pooling: pooling[place],
+    #[tactic(auto, unfolding(crate::specs::Writer::count_fit))]
+    fn counts_fit(&self) -> bool
+        ensures { result ≡ count_fit (content_of self.now) }
+    {
+        ranges::users_fit(self.users) && ranges::zone_fit(self.zone) && self.lists_fit()
     }
-}
 
-// How many bytes the lines of all users have.
-fn lines_length(
-    hour: u32,
-    zone: u32,
-    entry: &[i64],
-    exit: &[i64],
-    title: &[i64],
-    pooling: &[i64],
-) -> usize
-    requires { Lists entry.now exit.now title.now pooling.now }
-    ensures { (result ≡ length (lines_text hour zone
-        entry.now exit.now title.now pooling.now))
-        × (result ≤ users_most * line_most) }
-{
-    let mut total: usize = 0;
-    let mut i: usize = 0;
-    while i < entry.len() {
-        total += line_length(row_at(hour, zone, i, entry, exit, title, pooling));
-        i += 1;
+    #[tactic(auto, unfolding(crate::specs::Writer::amounts_short))]
+    fn amounts_fit(&self) -> bool
+        ensures { result ≡ amounts_short (content_of self.now) }
+    {
+        let a = self.amounts;
+        all_nine_digits(a.entries)
+            && all_nine_digits(a.exits)
+            && all_nine_digits(a.titles)
+            && all_nine_digits(a.poolings)
     }
-    total
-}
 
-fn write_lines(
-    file: &mut [u8],
-    at: usize,
-    hour: u32,
-    zone: u32,
-    entry: &[i64],
-    exit: &[i64],
-    title: &[i64],
-    pooling: &[i64],
-) -> usize
-    requires { Lists entry.now exit.now title.now pooling.now
-        × (at + length (lines_text hour zone entry.now exit.now title.now pooling.now) ≤ length file.old) }
-    ensures { Put file.old at
-        (lines_text hour zone
-        entry.now exit.now title.now pooling.now)
-        file.new result }
-{
-    let mut end = at;
-    let mut i: usize = 0;
-    while i < entry.len() {
-        end = write_line(
-            file,
-            end,
-            row_at(hour, zone, i, entry, exit, title, pooling),
-        );
-        i += 1;
+    #[tactic(auto, unfolding(crate::specs::Writer::hour_fit, crate::specs::Writer::numbers_fit))]
+    fn numbers_fit(&self) -> bool
+        ensures { result ≡ numbers_fit (content_of self.now) }
+    {
+        nine_digits(self.hour) && 0 <= self.hour && self.amounts_fit()
     }
-    end
+
+    // ---- the lines
+
+    // The row at a place of the four lists.
+    fn row_at(&self, place: usize) -> Row
+        requires { Tested (content_of self.now) × (place < natural self.now.users) }
+        ensures { result ≡ row_at (content_of self.now) place }
+    {
+        let a = self.amounts;
+        Row {
+            hour: self.hour as u32,
+            zone: self.zone as u32,
+            place: place as u32,
+            entry: a.entries[place],
+            exit: a.exits[place],
+            title: a.titles[place],
+            pooling: a.poolings[place],
+        }
+    }
+
+    // How many bytes the lines of all users have.
+    fn lines_length(&self) -> usize
+        requires { Tested (content_of self.now) }
+        ensures { (result ≡ length (lines_text (content_of self.now)))
+            × (result ≤ users_most * line_most) }
+    {
+        let mut total: usize = 0;
+        for place in 0..integers::natural(self.users) {
+            total += line_length(self.row_at(place));
+        }
+        total
+    }
+
+    // Whether the header and the lines have room.
+    #[tactic(auto, unfolding(crate::specs::Writer::room_for))]
+    fn room_for(&self, file: &[u8]) -> bool
+        requires { Tested (content_of self.now) }
+        ensures { result ≡ room_for (content_of self.now) file.now }
+    {
+        HEADER.len() + self.lines_length() <= file.len()
+    }
+
+    // The first cause that applies, if any does.
+    #[tactic(auto, unfolding(crate::specs::Writer::write_cause))]
+    fn check(&self, file: &[u8]) -> Result<(), WriteCause>
+        ensures { result ≡ write_cause (content_of self.now) file.now }
+    {
+        require(self.counts_fit(), WriteCause::Counts)?;
+        require(self.numbers_fit(), WriteCause::Digits)?;
+        require(self.room_for(file), WriteCause::Room)
+    }
+
+    fn write_lines(&self, file: &mut [u8], at: usize) -> usize
+        requires { Tested (content_of self.now)
+            × (at + length (lines_text (content_of self.now)) ≤ length file.old) }
+        ensures { Put file.old at (lines_text (content_of self.now)) file.new result }
+    {
+        let mut end = at;
+        for place in 0..integers::natural(self.users) {
+            end = write_line(file, end, self.row_at(place));
+        }
+        end
+    }
 }
 
 // ---- the call
@@ -166,36 +187,20 @@ pub fn write_hour_file(
     hour: i64,
     zone: i64,
     users: i64,
-    entry: &[i64],
-    exit: &[i64],
-    title: &[i64],
-    pooling: &[i64],
+    amounts: &Amounts,
     file: &mut [u8],
-) -> WriteAnswer
-    ensures { WriteHour
-        (content hour zone users
-        entry.now exit.now title.now pooling.now)
+) -> Result<i64, WriteCause>
+    ensures { WriteHour (content hour zone users amounts.now)
         file.old result file.new }
 {
-    let counted = both(
-        ranges::users_fit(users),
-        both(
-            ranges::zone_fit(zone),
-            lists_fit(users, entry, exit, title, pooling),
-        ),
-    );
-    if !counted {
-        return WriteAnswer::Refused(18);
-    }
-    if !both(hour_fits(hour), amounts_fit(entry, exit, title, pooling)) {
-        return WriteAnswer::Refused(19);
-    }
-    let h = integers::natural(hour) as u32;
-    let z = integers::natural(zone) as u32;
-    if file.len() < HEADER.len() + lines_length(h, z, entry, exit, title, pooling) {
-        return WriteAnswer::Refused(20);
-    }
+    let hour_file = HourFile {
+        hour,
+        zone,
+        users,
+        amounts,
+    };
+    hour_file.check(file)?;
     let start = write_bytes(file, 0, &HEADER);
-    let end = write_lines(file, start, h, z, entry, exit, title, pooling);
-    WriteAnswer::Written(integers::signed(end as u64))
+    let end = hour_file.write_lines(file, start);
+    Ok(end as i64)
 }

@@ -1,24 +1,22 @@
--- The elements passed so far have at most nine digits. Assumes nothing.
-use mathlib.Core.Path.{sym, ap₂, ◌∙◌}
+-- Each number is tested. Assumes nothing.
+use mathlib.Core.Path.{◌≡◌, refl, ap, ◌∙◌}
 use mathlib.Core.Bool.{Bool, ◌&&◌}
-use native.Mathlib.Omega.{arith}
-use borrow.Author.Rules.{rules}
-use lib.IntN.{pos}
-use lib.ListN.{get_or}
+use mathlib.Core.List.{List, [], ◌∷◌}
+use Rattle.std.proofs.Common.{rules, tests}
+use Rattle.std.specs.List.{list_all}
+use Rattle.std.proofs.lemmas.Iterator.{YieldsList-from_slice}
+use Rattle.std.proofs.lemmas.Iterator.Search.{all_from_yields_List}
 use Rattle.integers.specs.Lists.{every}
-use Rattle.integers.proofs.Machine.{back}
-use Rattle.integers.proofs.Passes.{every-step}
+use Rattle.allocation_writer.specs.Writer.{nine_digits}
 use Rattle.allocation_writer.proofs.all_nine_digits.Goals as goal
 
-pub loop-i-init : goal.loop-i-init
+-- the library's word for it
+every_is : {A : Type 0} (p : A → Bool) (xs : List A) → list_all p xs ≡ every p xs
 unfolding every
-loop-i-init c = search rules
+every_is p [] = refl
+every_is p (x ∷ xs) = ap (λ (b : Bool). p x && b) (every_is p xs)
 
-pub loop-i-preserved : goal.loop-i-preserved
-loop-i-preserved c =
-    let l = c.loop-i in
-    let v = get_or c.args.list.now l.i (pos 0) in
-    let e = rw (back v (search rules)) at c.nine_digits.ensures in (
-      omega arith,
-      c.both-fit.ensures ∙ ap₂ (λ (a b : Bool). a && b) l.invariant.1 e ∙ sym (every-step _ (pos 0) _ l.i c.loop-i-test.true),
-    )
+pub returns : goal.returns
+returns c =
+    all_from_yields_List nine_digits _ _ c.all.result c.all.ensures.ran (YieldsList-from_slice c.args.list.now cc) (λ x b q k. search (rules, tests))
+    ∙ every_is nine_digits c.args.list.now
