@@ -1,30 +1,18 @@
--- The test of the first bytes, byte by byte, and what it says of them. Assumes nothing.
-use mathlib.Core.Path.{◌≡◌, refl}
-use mathlib.Core.Bool.{true, false, false≢true}
+-- What the test of the first bytes says of them, and that the library's test is the same. Assumes nothing.
+use mathlib.Core.Path.{◌≡◌, refl, sym}
+use mathlib.Core.Bool.{Bool, true, false≢true}
 use mathlib.Core.List.{List, [], ◌∷◌}
-use Prim.Native.Nat.{ℕ, ◌+◌, ◌≤◌, ◌<◌}
-use native.Mathlib.Numerals.{add-one}
+use Prim.Native.Nat.{ℕ}
 use native.Mathlib.Omega.{arith}
 use lib.Dec.{eqb}
-use lib.ListN.{length, get_or, take, drop, drop_of_length-le}
-use lib.Seq.{drop-cons}
-use borrow.Author.Tests.{eq-eqb, ne_eqb, eqb-true}
+use lib.ListN.{length, take}
+use borrow.Author.Tests.{eq-eqb, eqb-true}
+use Rattle.std.specs.Bool.{one_answer}
+use Rattle.std.specs.List.{starts_with}
+use Rattle.std.proofs.lemmas.Bool.Decides.{Decides-eqb}
+use Rattle.std.proofs.lemmas.Slice.Eq.{slice_eq-Decides}
 use Rattle.integers.proofs.Tests.{and_true}
 use Rattle.csv_lines.specs.Lines.{begins}
-
-module _ (s head : List ℕ) (i : ℕ) (g : i < length head) where
-  -- there is no such byte
-  pub begins_short : length s ≤ i → begins (drop i s) (drop i head) ≡ false
-  begins_short e = rw (drop_of_length-le s e, drop-cons head i 0 g)
-
-  -- the bytes differ
-  pub begins_not : i < length s → (get_or s i 0 ≡ get_or head i 0 → ⊥) → begins (drop i s) (drop i head) ≡ false
-  begins_not f e = rw (drop-cons s i 0 f, drop-cons head i 0 g, ne_eqb _ _ e)
-
-  -- the bytes are the same
-  pub begins_on : i < length s → get_or s i 0 ≡ get_or head i 0
-      → begins (drop i s) (drop i head) ≡ begins (drop (i + 1) s) (drop (i + 1) head)
-  begins_on f e = rw (add-one, drop-cons s i 0 f, drop-cons head i 0 g, eq-eqb _ _ e)
 
 -- ---- what the first bytes are then
 -- those of the head
@@ -45,3 +33,10 @@ take_begins (y ∷ ys) (x ∷ xs) e =
     let q : y ≡ x = cc in
     let r : take (length xs) ys ≡ xs = cc in
     rw (eq-eqb y x q, take_begins ys xs r)
+
+-- ---- the library's test of a slice
+pub starts_begins : (s head : List ℕ) (r : Bool) → r ≡ starts_with eqb s head → r ≡ begins s head
+starts_begins s head r e =
+    one_answer r (begins s head)
+    (slice_eq-Decides Decides-eqb head (take (length head) s) r e)
+    (λ b. sym (begins-take s head b), λ t. take_begins s head (sym t))

@@ -1,48 +1,14 @@
--- Where a line ends, byte by byte, and how the lines go on after the first. Assumes nothing.
-use mathlib.Core.Path.{◌≡◌, refl, ap}
-use mathlib.Core.Bool.{Bool, true, false, and-false}
+-- That a line is within the bytes, and how the lines go on after the first. Assumes nothing.
+use mathlib.Core.Path.{◌≡◌, refl}
+use mathlib.Core.Bool.{Bool, true, false}
 use mathlib.Core.List.{List, [], ◌∷◌}
 use Prim.Native.Nat.{ℕ, suc, ◌+◌, ◌≤◌, ◌<◌}
 use native.Mathlib.Nat.{suc-add}
-use native.Mathlib.Numerals.{add-one}
 use native.Mathlib.Omega.{arith}
-use lib.ListN.{length, get_or, take, drop, length-drop, drop_of_length-le}
-use lib.Seq.{drop-cons, drop-drop, length-take-le}
-use borrow.Author.Tests.{ne_eqb}
-use Rattle.text.specs.Bytes.{carriage_return, line_feed}
+use lib.ListN.{length, take, drop, length-drop, drop_of_length-le}
+use lib.Seq.{drop-drop, length-take-le}
 use Rattle.csv_lines.specs.Lines.{is_pair, at_byte, lines}
 use Rattle.csv_lines.specs.Steps.{unless_end, line_len, line_at}
-
--- ---- one byte further, in a loop that looks for the line's end
-module _ (s : List ℕ) (i : ℕ) (h : i + 1 < length s) where
-  -- the two bytes at a position
-  two : drop i s ≡ get_or s i 0 ∷ get_or s (i + 1) 0 ∷ drop (suc (i + 1)) s
-  two = let g : i < length s = omega arith in rw (drop-cons s i 0 g, ← add-one i, drop-cons s (i + 1) 0 h)
-
-  -- the line ends here
-  pub pair_here : get_or s i 0 ≡ carriage_return → get_or s (i + 1) 0 ≡ line_feed → line_len (drop i s) ≡ 0
-  pair_here e f = rw (two, e, f)
-
-  -- the line goes on
-  no_pair : is_pair (get_or s i 0) (get_or s (i + 1) 0) ≡ false → line_len (drop i s) ≡ suc (line_len (drop (i + 1) s))
-  no_pair e = rw (two, drop-cons s (i + 1) 0 h, e)
-
-  -- since the first byte is no CR
-  pub no_cr : (get_or s i 0 ≡ carriage_return → ⊥) → line_len (drop i s) ≡ suc (line_len (drop (i + 1) s))
-  no_cr e = no_pair (rw (ne_eqb _ _ e))
-
-  -- since the second byte is no LF
-  pub no_lf : (get_or s (i + 1) 0 ≡ line_feed → ⊥) → line_len (drop i s) ≡ suc (line_len (drop (i + 1) s))
-  no_lf e = no_pair (rw (ne_eqb _ _ e, and-false))
-
--- no pair begins at the last byte
-pub no_more : (s : List ℕ) (i : ℕ) → i ≤ length s → length s ≤ i + 1 → i + line_len (drop i s) ≡ length s
-no_more s i h g = go (drop i s) refl
-  where
-    go : (r : List ℕ) → drop i s ≡ r → i + line_len (drop i s) ≡ length s
-    go [] e = rw e (omega (arith, length-drop i s, ap length e))
-    go (x ∷ []) e = rw e (omega (arith, length-drop i s, ap length e))
-    go (x ∷ y ∷ ys) e = absurd (omega (arith, length-drop i s, ap length e))
 
 -- ---- a line is within the bytes
 pub end_within : (b : Bool) (n m : ℕ) → n ≤ m → unless_end b n ≤ suc m

@@ -11,17 +11,7 @@ ghost use Rattle.csv_lines.specs.Steps.{line_len, field_len, line_at, FieldStart
 pub fn begins_with(file: &[u8], head: &[u8]) -> bool
     ensures { result ≡ begins file.now head.now }
 {
-    let mut i = 0;
-    while i < head.len() {
-        if file.len() <= i {
-            return false;
-        }
-        if file[i] != head[i] {
-            return false;
-        }
-        i += 1;
-    }
-    true
+    file.starts_with(head)
 }
 
 // Where the line that begins at `from` ends: at the next CR LF pair, or at the end of the file.
@@ -29,14 +19,10 @@ fn line_end(file: &[u8], from: usize) -> usize
     requires { from ≤ length file.now }
     ensures { result ≡ from + line_len (drop from file.now) }
 {
-    let mut i = from;
-    while i + 1 < file.len() {
-        if file[i] == b'\r' {
-            if file[i + 1] == b'\n' {
-                return i;
-            }
+    for i in from..file.len() {
+        if let [b'\r', b'\n', ..] = &file[i..] {
+            return i;
         }
-        i += 1;
     }
     file.len()
 }
@@ -55,14 +41,12 @@ fn field_end(line: &[u8], from: usize) -> usize
     requires { from ≤ length line.now }
     ensures { result ≡ from + field_len (drop from line.now) }
 {
-    let mut i = from;
-    while i < line.len() {
+    for i in from..line.len() {
         if line[i] == b',' {
             return i;
         }
-        i += 1;
     }
-    i
+    line.len()
 }
 
 // Where field `k` begins, counted from 0.
@@ -71,10 +55,8 @@ fn field_start(line: &[u8], k: usize) -> usize
     ensures { FieldStart line.now k result }
 {
     let mut at = 0;
-    let mut j = 0;
-    while j < k {
+    for _ in 0..k {
         at = field_end(line, at) + 1;
-        j += 1;
     }
     at
 }

@@ -1,37 +1,18 @@
--- How a number goes on by a digit, when there is one, how large it is, and the sign of an amount. Assumes nothing.
+-- When there is a number, and how large it is. Assumes nothing.
 use mathlib.Core.Path.{◌≡◌, refl}
-use mathlib.Core.Bool.{Bool, true, false, ◌&&◌, cond, and-false}
+use mathlib.Core.Bool.{Bool, true, false, ◌&&◌, cond}
 use mathlib.Core.List.{List, [], ◌∷◌}
-use Prim.Native.Nat.{ℕ, zero, suc, ◌+◌, ◌-◌, ◌*◌, ◌^◌, ◌≤◌, ◌<◌}
+use Prim.Native.Nat.{ℕ, suc, ◌+◌, ◌-◌, ◌*◌, ◌^◌, ◌≤◌, ◌<◌}
 use native.Mathlib.Nat.{pow-succ', pow-le-pow_right, add-zero, lt_of_lt_of_le}
 use native.Mathlib.Numerals.{add-one}
 use native.Mathlib.Omega.{arith}
 use lib.Dec.{eqb, leb, lit<}
-use lib.IntN.{pos, neg_ℤ}
-use lib.ListN.{length, get_or, drop}
-use lib.Seq.{drop-cons}
-use borrow.Author.Tests.{leb-true, le-leb, lt-leb, ne_eqb}
+use lib.ListN.{length, get_or}
+use borrow.Author.Tests.{leb-true}
+use Rattle.std.specs.Prelude.{Option, Some, None, IfSome}
 use Rattle.integers.proofs.Tests.{and_true}
-use Rattle.text.specs.Bytes.{minus_sign, digit0, digit9}
-use Rattle.text.specs.Numbers.{is_digit, digits_from, digits_of, needless_zero, unsigned_of, size_of, positive, negative, amount_of}
-use Rattle.text.specs.declared.number.Unsigned.{Unsigned}
-use Rattle.text.specs.declared.number.Unsigned.TheVariants.{Number, NoNumber}
-use Rattle.text.specs.declared.number.Amount.TheVariants.{Kwh}
-
--- ---- one digit further
-module _ (f : List ℕ) (i v : ℕ) (h : i < length f) where
-  -- a byte below the digits
-  pub below-digits : get_or f i 0 < digit0 → digits_from v (drop i f) ≡ NoNumber
-  below-digits e = rw (drop-cons f i 0, lt-leb _ _ e)
-
-  -- a byte above the digits
-  pub above-digits : digit9 < get_or f i 0 → digits_from v (drop i f) ≡ NoNumber
-  above-digits e = rw (drop-cons f i 0, lt-leb _ _ e, and-false)
-
-  -- a digit
-  pub next_digit : digit0 ≤ get_or f i 0 → get_or f i 0 ≤ digit9
-      → digits_from v (drop i f) ≡ digits_from (v * 10 + (get_or f i 0 - digit0)) (drop (i + 1) f)
-  next_digit e g = rw (add-one, drop-cons f i 0, le-leb _ _ e, le-leb _ _ g)
+use Rattle.text.specs.Bytes.{digit0, digit9}
+use Rattle.text.specs.Numbers.{is_digit, digits_from, digits_of, needless_zero, unsigned_of}
 
 -- nine digits are below 10 ^ 9
 pub tens : (i : ℕ) → i < 9 → (10 ^ (i + 1) ≡ 10 * 10 ^ i) × (10 ^ i ≤ 100000000)
@@ -40,24 +21,19 @@ tens i h = (rw add-one (pow-succ' 10 i), pow-le-pow_right (lit< tt) {i = i} {j =
 -- ---- tests that decide whether there is a number
 
 -- what is a number only if a test holds
-pub number_if : (b : Bool) (u : Unsigned) (n : ℕ) → cond b u NoNumber ≡ Number n → (b ≡ true) × (u ≡ Number n)
+pub number_if : (b : Bool) (u : Option ℕ) (n : ℕ) → cond b u None ≡ Some n → (b ≡ true) × (u ≡ Some n)
 number_if true u n e = (refl, e)
 number_if false u n e = let q : ◌≡◌ {A = ℕ} 0 1 = cc in absurd (omega arith)
 
 -- and only if it does not
-pub number_unless : (b : Bool) (u : Unsigned) (n : ℕ) → cond b NoNumber u ≡ Number n → (b ≡ false) × (u ≡ Number n)
+pub number_unless : (b : Bool) (u : Option ℕ) (n : ℕ) → cond b None u ≡ Some n → (b ≡ false) × (u ≡ Some n)
 number_unless true u n e = let q : ◌≡◌ {A = ℕ} 0 1 = cc in absurd (omega arith)
 number_unless false u n e = (refl, e)
 
 -- ---- how large a number is
 
--- what holds of a field's number, if it has one
-abbrev pub IfNumber : (ℕ → Type 0) → Unsigned → Type 0
-IfNumber P (Number n) = P n
-IfNumber P NoNumber = Unit
-
 -- digits after those of v, which has at most i
-more-below : (f : List ℕ) (v i : ℕ) → v < 10 ^ i → IfNumber (λ n. n < 10 ^ (i + length f)) (digits_from v f)
+more-below : (f : List ℕ) (v i : ℕ) → v < 10 ^ i → IfSome (digits_from v f) (λ n. n < 10 ^ (i + length f))
 more-below [] v i h = rw add-zero h
 more-below (x ∷ xs) v i h = go (is_digit x) refl (more-below xs (v * 10 + (x - digit0)) (i + 1))
   where
@@ -67,61 +43,33 @@ more-below (x ∷ xs) v i h = go (is_digit x) refl (more-below xs (v * 10 + (x -
         rw (add-one, pow-succ' 10 i) (omega arith)
 
     go : (b : Bool) → is_digit x ≡ b
-        → (v * 10 + (x - digit0) < 10 ^ (i + 1) → IfNumber (λ n. n < 10 ^ (i + 1 + length xs)) (digits_from (v * 10 + (x - digit0)) xs))
-        → IfNumber (λ n. n < 10 ^ (i + suc (length xs))) (cond b (digits_from (v * 10 + (x - digit0)) xs) NoNumber)
+        → (v * 10 + (x - digit0) < 10 ^ (i + 1) → IfSome (digits_from (v * 10 + (x - digit0)) xs) (λ n. n < 10 ^ (i + 1 + length xs)))
+        → IfSome (cond b (digits_from (v * 10 + (x - digit0)) xs) None) (λ n. n < 10 ^ (i + suc (length xs)))
     go true e on = let q : i + suc (length xs) ≡ i + 1 + length xs = omega arith in rw q (on (step e))
     go false e on = tt
 
 -- at most k digits are below 10 ^ k
-pub digits-below : (f : List ℕ) (k : ℕ) → length f ≤ k → IfNumber (λ n. n < 10 ^ k) (digits_from 0 f)
+pub digits-below : (f : List ℕ) (k : ℕ) → length f ≤ k → IfSome (digits_from 0 f) (λ n. n < 10 ^ k)
 digits-below f k h = wider (digits_from 0 f) (more-below f 0 0 (lit< tt))
   where
-    wider : (u : Unsigned) → IfNumber (λ n. n < 10 ^ (0 + length f)) u → IfNumber (λ n. n < 10 ^ k) u
-    wider (Number n) l = lt_of_lt_of_le l (pow-le-pow_right (lit< tt) {i = 0 + length f} {j = k} (omega arith))
-    wider NoNumber l = tt
+    wider : (u : Option ℕ) → IfSome u (λ n. n < 10 ^ (0 + length f)) → IfSome u (λ n. n < 10 ^ k)
+    wider (Some n) l = lt_of_lt_of_le l (pow-le-pow_right (lit< tt) {i = 0 + length f} {j = k} (omega arith))
+    wider None l = tt
 
 -- and so is the whole number of a field that, having at most nine, has at most k
-pub unsigned_below : (f : List ℕ) (k : ℕ) → (length f ≤ 9 → length f ≤ k) → IfNumber (λ n. n < 10 ^ k) (unsigned_of f)
+pub unsigned_below : (f : List ℕ) (k : ℕ) → (length f ≤ 9 → length f ≤ k) → IfSome (unsigned_of f) (λ n. n < 10 ^ k)
 unsigned_below f k h = needless (needless_zero f)
   where
-    counted : (b : Bool) → (leb 1 (length f) && leb (length f) 9) ≡ b → IfNumber (λ n. n < 10 ^ k) (cond b (digits_from 0 f) NoNumber)
+    counted : (b : Bool) → (leb 1 (length f) && leb (length f) 9) ≡ b → IfSome (cond b (digits_from 0 f) None) (λ n. n < 10 ^ k)
     counted true e = digits-below f k (h (leb-true (length f) 9 (and_true (leb 1 (length f)) (leb (length f) 9) e).1))
     counted false e = tt
 
-    needless : (b : Bool) → IfNumber (λ n. n < 10 ^ k) (cond b NoNumber (digits_of f))
+    needless : (b : Bool) → IfSome (cond b None (digits_of f)) (λ n. n < 10 ^ k)
     needless true = tt
     needless false = counted (leb 1 (length f) && leb (length f) 9) refl
 
--- ---- a leading zero
--- a field of several bytes
+-- ---- a leading zero, in a field of several bytes
 pub zero_leads : (f : List ℕ) → 1 < length f → needless_zero f ≡ eqb (get_or f 0 0) digit0
 zero_leads [] h = absurd (omega arith)
 zero_leads (x ∷ []) h = absurd (omega arith)
 zero_leads (x ∷ y ∷ ys) h = refl
-
--- a field of at most one
-pub zero_alone : (f : List ℕ) → length f ≤ 1 → needless_zero f ≡ false
-zero_alone [] h = refl
-zero_alone (x ∷ []) h = refl
-zero_alone (x ∷ y ∷ ys) h = absurd (omega arith)
-
--- ---- the sign
--- a `-` leads
-pub with_minus : (f : List ℕ) → 0 < length f → get_or f 0 0 ≡ minus_sign → amount_of f ≡ negative (size_of (drop 1 f))
-with_minus [] h e = absurd (omega arith)
-with_minus (x ∷ xs) h e = rw e
-
--- another byte leads
-pub no_minus : (f : List ℕ) → 0 < length f → (get_or f 0 0 ≡ minus_sign → ⊥) → amount_of f ≡ positive (size_of f)
-no_minus [] h e = absurd (omega arith)
-no_minus (x ∷ xs) h e = rw (ne_eqb _ _ e)
-
--- no byte leads
-pub no_bytes : (f : List ℕ) → length f ≤ 0 → amount_of f ≡ positive (size_of f)
-no_bytes [] h = refl
-no_bytes (x ∷ xs) h = absurd (omega arith)
-
--- the amount after a `-`
-pub negative_is : (n : ℕ) → (n ≡ 0 → ⊥) → Kwh (neg_ℤ (pos n)) ≡ negative (Number n)
-negative_is zero h = absurd (h refl)
-negative_is (suc n) h = refl

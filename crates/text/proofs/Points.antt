@@ -8,45 +8,44 @@ use native.Mathlib.Omega.{arith}
 use lib.Dec.{eqb, leb}
 use lib.ListN.{length, get_or, take, drop, length-append, length-drop}
 use lib.Seq.{get_or_at, split_at}
-use borrow.Author.Tests.{le-leb, eqb-true, eq-eqb, ne_eqb}
+use borrow.Author.Tests.{eqb-true, ne_eqb}
+use Rattle.std.specs.Prelude.{Option, Some, None}
 use Rattle.text.specs.Bytes.{point, digit0}
 use Rattle.text.specs.Numbers.{is_digit, digits_from, digits_of, needless_zero, unsigned_of, has_point, before_point, after_point, whole_of, decimals_of, mwh_of, size_of}
-use Rattle.text.specs.declared.number.Unsigned.{Unsigned}
-use Rattle.text.specs.declared.number.Unsigned.TheVariants.{Number, NoNumber}
 use Rattle.text.proofs.Numbers.{digits-below, unsigned_below}
 
 -- ---- no whole number has a point
 
 -- no number, whatever a test says
-none_either : (b : Bool) (u : Unsigned) → u ≡ NoNumber → cond b u NoNumber ≡ NoNumber
+none_either : (b : Bool) (u : Option ℕ) → u ≡ None → cond b u None ≡ None
 none_either true u e = e
 none_either false u e = refl
 
 -- digits have none
-point_no_digits : (f : List ℕ) (v : ℕ) → has_point f ≡ true → digits_from v f ≡ NoNumber
+point_no_digits : (f : List ℕ) (v : ℕ) → has_point f ≡ true → digits_from v f ≡ None
 point_no_digits [] v h = let q : ◌≡◌ {A = ℕ} 0 1 = cc in absurd (omega arith)
 point_no_digits (x ∷ f) v h = here (eqb x point) refl h (point_no_digits f (v * 10 + (x - digit0)))
   where
     here : (b : Bool) → eqb x point ≡ b → (b || has_point f) ≡ true
-        → (has_point f ≡ true → digits_from (v * 10 + (x - digit0)) f ≡ NoNumber) → digits_from v (x ∷ f) ≡ NoNumber
+        → (has_point f ≡ true → digits_from (v * 10 + (x - digit0)) f ≡ None) → digits_from v (x ∷ f) ≡ None
     here true e h on = rw (eqb-true x point e)
     here false e h on = none_either (is_digit x) (digits_from (v * 10 + (x - digit0)) f) (on h)
 
 -- a field with one is none
-point_no_number : (f : List ℕ) → has_point f ≡ true → unsigned_of f ≡ NoNumber
+point_no_number : (f : List ℕ) → has_point f ≡ true → unsigned_of f ≡ None
 point_no_number f h = go (needless_zero f)
   where
-    go : (b : Bool) → cond b NoNumber (digits_of f) ≡ NoNumber
+    go : (b : Bool) → cond b None (digits_of f) ≡ None
     go true = refl
     go false = none_either (leb 1 (length f) && leb (length f) 9) (digits_from 0 f) (point_no_digits f 0 h)
 
 -- so a whole number has none
-pub number_no_point : (f : List ℕ) (n : ℕ) → unsigned_of f ≡ Number n → has_point f ≡ false
+pub number_no_point : (f : List ℕ) (n : ℕ) → unsigned_of f ≡ Some n → has_point f ≡ false
 number_no_point f n e = go (has_point f) refl
   where
     go : (b : Bool) → has_point f ≡ b → b ≡ false
     go true h =
-        let q : NoNumber ≡ Number n = sym (point_no_number f h) ∙ e in
+        let q : None ≡ Some n = sym (point_no_number f h) ∙ e in
         let r : ◌≡◌ {A = ℕ} 0 1 = cc in
         absurd (omega arith)
     go false h = refl
@@ -102,12 +101,12 @@ later (x ∷ w) d h = go (eqb x point) h (later w d)
 -- ---- a size in MWh
 
 -- nothing is left of MWh without decimals
-no_decimals : (u : Unsigned) → mwh_of u NoNumber ≡ NoNumber
-no_decimals (Number m) = refl
-no_decimals NoNumber = refl
+no_decimals : (u : Option ℕ) → mwh_of u None ≡ None
+no_decimals (Some m) = refl
+no_decimals None = refl
 
 -- nor of decimals that are not three
-not_three : (u : Unsigned) (d : List ℕ) → (length d ≡ 3 → ⊥) → mwh_of u (decimals_of d) ≡ NoNumber
+not_three : (u : Option ℕ) (d : List ℕ) → (length d ≡ 3 → ⊥) → mwh_of u (decimals_of d) ≡ None
 not_three u d h = rw (ne_eqb (length d) 3 h) (no_decimals u)
 
 -- a whole part of at most six bytes, and three bytes of decimals
@@ -116,12 +115,8 @@ module _ (w d : List ℕ) (short : length w ≤ 6) (three : length d ≡ 3) wher
   three_digits : digits_of d ≡ digits_from 0 d
   three_digits = rw three
 
-  -- the size, by what the two are read as
-  pub parts_size : (u v : Unsigned) → unsigned_of w ≡ u → digits_of d ≡ v → mwh_of (whole_of w) (decimals_of d) ≡ mwh_of u v
-  parts_size u v p q = rw (le-leb (length w) 6 short, p, eq-eqb (length d) 3 three, sym three_digits ∙ q)
-
   -- which are small
-  pub parts_small : (m k : ℕ) → unsigned_of w ≡ Number m → digits_of d ≡ Number k → (m < 10 ^ 6) × (k < 10 ^ 3)
+  pub parts_small : (m k : ℕ) → unsigned_of w ≡ Some m → digits_of d ≡ Some k → (m < 10 ^ 6) × (k < 10 ^ 3)
   parts_small m k p q =
       (rw p at (unsigned_below w 6 (λ h. short)), rw (sym three_digits ∙ q) at (digits-below d 3 (omega arith)))
 
@@ -132,7 +127,7 @@ pointed w d h = go (has_point w) refl
     go : (b : Bool) → has_point w ≡ b → size_of (w ++ point ∷ d) ≡ mwh_of (whole_of w) (decimals_of d)
     go true e =
         let long = later w d e in
-        let none : whole_of w ≡ NoNumber = none_either (leb (length w) 6) (unsigned_of w) (point_no_number w e) in
+        let none : whole_of w ≡ None = none_either (leb (length w) 6) (unsigned_of w) (point_no_number w e) in
         rw (point_among w d, none) (not_three (whole_of (before_point (w ++ point ∷ d))) (after_point (w ++ point ∷ d)) (λ q. omega arith))
     go false e = let p = first w d e in rw (point_among w d, p.before, p.after)
 

@@ -17,15 +17,13 @@ pub fn write_bytes(out: &mut [u8], at: usize, text: &[u8]) -> usize
     requires { at + length text.now ≤ length out.old }
     ensures { Put out.old at text.now out.new result }
 {
-    let mut i: usize = 0;
-    while i < text.len() {
-        out[at + i] = text[i];
-        i += 1;
-    }
-    at + i
+    let end = at + text.len();
+    out[at..end].copy_from_slice(text);
+    end
 }
 
-// The digits of a number: those of its tenth, if it has more than one, then its last. The calls are at most 20 deep.
+// The digits of a number: those of its tenth, if it has more than one, then its last. The calls are at most 20 deep. (A
+// recursion, since the last digit is found first and written last.)
 pub fn write_digits(out: &mut [u8], at: usize, n: u64) -> usize
     requires { at + length (digits n) ≤ length out.old }
     ensures { Put out.old at (digits n) out.new result }
@@ -42,7 +40,7 @@ pub fn write_decimal(out: &mut [u8], at: usize, value: i64) -> usize
     requires { at + length (decimal value) ≤ length out.old }
     ensures { Put out.old at (decimal value) out.new result × (result ≤ at + 20) }
 {
-    let size = integers::magnitude(value);
+    let size = value.unsigned_abs();
     if value < 0 {
         let first = write_byte(out, at, b'-');
         return write_digits(out, first, size);
@@ -59,16 +57,17 @@ pub fn write_field(out: &mut [u8], at: usize, value: i64) -> usize
     write_byte(out, end, b',')
 }
 
+#[tactic(auto, unfolding(crate::specs::Bytes::line_end))]
 pub fn write_line_end(out: &mut [u8], at: usize) -> usize
     requires { at + length line_end ≤ length out.old }
     ensures { Put out.old at line_end out.new result }
 {
-    let end = write_byte(out, at, b'\r');
-    write_byte(out, end, b'\n')
+    write_bytes(out, at, b"\r\n")
 }
 
 // ---- how long a number's text is
 
+// (A `while`: no index is counted, the loop goes on while more than one digit is left.)
 pub fn digit_count(n: u64) -> usize
     ensures { (result ≡ length (digits n)) × (result ≤ 20) }
 {
@@ -84,6 +83,6 @@ pub fn digit_count(n: u64) -> usize
 pub fn decimal_length(value: i64) -> usize
     ensures { (result ≡ length (decimal value)) × (result ≤ 20) }
 {
-    let count = digit_count(integers::magnitude(value));
+    let count = digit_count(value.unsigned_abs());
     if value < 0 { count + 1 } else { count }
 }

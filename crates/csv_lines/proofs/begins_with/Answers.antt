@@ -1,9 +1,6 @@
--- What is left of the file begins with what is left of the head where the whole does. Assumes nothing.
-use mathlib.Core.Path.{sym, ◌∙◌}
-use borrow.Author.Rules.{rules}
-use Rattle.csv_lines.proofs.Begins.{begins_short}
+-- The library's test is the definition's. Assumes nothing.
+use Rattle.csv_lines.proofs.Begins.{starts_begins}
 use Rattle.csv_lines.proofs.begins_with.Goals as goal
 
-pub returns-then-file-i : goal.returns-then-file-i
-returns-then-file-i c =
-    sym (sym c.loop-i.invariant.1 ∙ begins_short c.args.file.now c.args.head.now c.loop-i.i (search rules) c.if-file-i.true)
+pub returns : goal.returns
+returns c = starts_begins c.args.file.now c.args.head.now c.starts_with.result c.starts_with.ensures.value

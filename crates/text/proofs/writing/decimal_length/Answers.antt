@@ -18,13 +18,13 @@ few f n e = rw e (size-length f refl)
 pub returns-then-value-lt0 : goal.returns-then-value-lt0
 returns-then-value-lt0 c =
     let v = c.ranges.value in
-    let counted = rw (rw (read v) at c.magnitude.ensures) at c.digit_count-count.ensures.0 in
+    let counted = rw (rw (read v) at c.unsigned_abs.ensures.value) at c.digit_count-count.ensures.0 in
     let n = negative-length c.args.value (rw (read v) at c.if-value-lt0.true) in
     (omega (arith, counted, n), omega (arith, few v _ counted))
 
 pub returns-else-value-lt0 : goal.returns-else-value-lt0
 returns-else-value-lt0 c =
     let v = c.ranges.value in
-    let counted = rw (rw (read v) at c.magnitude.ensures) at c.digit_count-count.ensures.0 in
+    let counted = rw (rw (read v) at c.unsigned_abs.ensures.value) at c.digit_count-count.ensures.0 in
     let n = natural-length c.args.value (rw (read v) at c.if-value-lt0.false) in
     (omega (arith, counted, n), omega (arith, few v _ counted))

@@ -1,5 +1,5 @@
 -- By the sign: the `-`, then the digits of the size. Assumes nothing.
-use mathlib.Core.Path.{◌≡◌, sym}
+use mathlib.Core.Path.{◌≡◌, sym, ap, ◌∙◌}
 use mathlib.Core.Bool.{true}
 use mathlib.Core.List.{List, [], ◌∷◌, append-nil}
 use Prim.Native.Nat.{ℕ, ◌+◌, ◌≤◌}
@@ -25,19 +25,19 @@ starts out at x m size below room =
 pub write_byte-first-requires : goal.write_byte-first-requires
 write_byte-first-requires c =
     let f = read c.ranges.value in
-    let w = starts c.args.out.now c.args.at c.args.value _ (rw f at c.magnitude-size.ensures) (rw f at c.if-value-lt0.true) c.requires in
+    let w = starts c.args.out.now c.args.at c.args.value _ (c.unsigned_abs-size.ensures.value ∙ ap nat_abs f) (rw f at c.if-value-lt0.true) c.requires in
     omega (arith, part-fits w)
 
 pub write_digits-requires : goal.write_digits-requires
 write_digits-requires c =
     let f = read c.ranges.value in
-    let w = starts c.args.out.now c.args.at c.args.value _ (rw f at c.magnitude-size.ensures) (rw f at c.if-value-lt0.true) c.requires in
+    let w = starts c.args.out.now c.args.at c.args.value _ (c.unsigned_abs-size.ensures.value ∙ ap nat_abs f) (rw f at c.if-value-lt0.true) c.requires in
     part-fits (part_written w c.write_byte-first.ensures)
 
 pub returns-then-value-lt0 : goal.returns-then-value-lt0
 returns-then-value-lt0 c =
     let f = read c.ranges.value in
-    let size = rw f at c.magnitude-size.ensures in
+    let size = c.unsigned_abs-size.ensures.value ∙ ap nat_abs f in
     let w = starts c.args.out.now c.args.at c.args.value _ size (rw f at c.if-value-lt0.true) c.requires in
     let p = c.write_byte-first.ensures in
     let q = c.write_digits.ensures in
@@ -46,11 +46,11 @@ returns-then-value-lt0 c =
 pub write_digits-requires-2 : goal.write_digits-requires-2
 write_digits-requires-2 c =
     let f = read c.ranges.value in
-    rw (decimal-natural c.args.value (rw f at c.if-value-lt0.false), ← (rw f at c.magnitude-size.ensures)) at c.requires
+    rw (decimal-natural c.args.value (rw f at c.if-value-lt0.false), ← (c.unsigned_abs-size.ensures.value ∙ ap nat_abs f)) at c.requires
 
 pub returns : goal.returns
 returns c =
     let f = read c.ranges.value in
-    let size = rw f at c.magnitude-size.ensures in
+    let size = c.unsigned_abs-size.ensures.value ∙ ap nat_abs f in
     let q = c.write_digits-2.ensures in
     (rw (decimal-natural c.args.value (rw f at c.if-value-lt0.false), ← size) q, omega (arith, q.ends, size-length c.ranges.value size))
