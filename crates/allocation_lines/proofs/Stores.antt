@@ -1,6 +1,5 @@
 -- The answer and the four lists at each way out of the reading of the lines from place k on. Assumes nothing.
 use mathlib.Core.Path.{◌≡◌, refl, sym, ◌∙◌}
-use mathlib.Core.Bool.{true, false, false≢true}
 use mathlib.Core.List.{List, [], ◌∷◌, ◌++◌, map}
 use Prim.Native.Nat.{ℕ, suc, ◌+◌, ◌<◌}
 use native.Mathlib.Nat.{add-zero}
@@ -9,20 +8,21 @@ use native.Mathlib.Omega.{arith}
 use lib.IntN.{ℤ, pos}
 use lib.ListN.{length, get_or, take, drop, set, take-append-drop}
 use lib.Seq.{take-suc, append_snoc, set_at, length-take-le}
+use Rattle.std.specs.Prelude.{Ok, Err}
 use Rattle.allocation_row.specs.declared.Row.{Row}
+use Rattle.allocation_row.specs.declared.FileCause.{FileCause}
 use Rattle.allocation_row.specs.Steps.{Stored}
 use Rattle.allocation_lines.specs.Turns.{File, refused, read, with_row}
-use Rattle.allocation_lines.specs.Steps.{Lent, list_from, is_refused, After}
-use Rattle.allocation_lines.specs.declared.LinesAnswer.{LinesAnswer}
-use Rattle.allocation_lines.specs.declared.LinesAnswer.TheVariants.{Refused, Read}
+use Rattle.allocation_lines.specs.Steps.{Lent, list_from, After}
+use Rattle.allocation_lines.specs.declared.LinesRead.{LinesRead}
 
 -- ---- no list is touched
-pub after_refused : {k n : ℕ} {f : File} {a b c d : List ℤ} → f ≡ refused n → After k f a b c d (Refused n) a b c d
+pub after_refused : {k : ℕ} {n : FileCause} {f : File} {a b c d : List ℤ} → f ≡ refused n → After k f a b c d (Err n) a b c d
 after_refused e = rw e record { answer = refl; entries = refl; exits = refl; titles = refl; poolings = refl }
 
 -- after the last line
 pub after_end : {k h z : ℕ} {f : File} {a b c d : List ℤ} → f ≡ read h z []
-    → After k f a b c d (Read (record { hour = h; zone = z; lines = k })) a b c d
+    → After k f a b c d (Ok (record { hour = h; zone = z; lines = k })) a b c d
 after_end {k} {h} {z} {f} {a} {b} {c} {d} e =
     rw e record {
       answer = rw add-zero;
@@ -38,11 +38,11 @@ after_end {k} {h} {z} {f} {a} {b} {c} {d} e =
 -- ---- one row more
 module _ (k : ℕ) (r : Row) where
   -- the lines after it are refused
-  pub after-rest : (f : File) (u : LinesAnswer) {a b c d a' b' c' d' : List ℤ} → is_refused u ≡ true
-      → After (k + 1) f a b c d u a' b' c' d' → After k (with_row r f) a b c d u a' b' c' d'
-  after-rest (refused m) u e w =
+  pub after-rest : (f : File) (n : FileCause) {a b c d a' b' c' d' : List ℤ}
+      → After (k + 1) f a b c d (Err n) a' b' c' d' → After k (with_row r f) a b c d (Err n) a' b' c' d'
+  after-rest (refused m) n w =
       record { answer = w.answer; entries = w.entries; exits = w.exits; titles = w.titles; poolings = w.poolings }
-  after-rest (read h z rs) u e w = absurd (false≢true (rw w.answer at e))
+  after-rest (read h z rs) n w = let q : ◌≡◌ {A = ℕ} 0 1 = cc w.answer in absurd (omega arith)
 
   -- the row's number at place k, before those of the rows after it
   put : (f : Row → ℤ) (h z : ℕ) (rs : List Row) (xs : List ℤ) → k < length xs
@@ -54,12 +54,12 @@ module _ (k : ℕ) (r : Row) where
       (length-take-le k xs (omega arith)))
 
   -- the lines after it are read, and it is stored
-  pub after_stored : (f : File) (u : LinesAnswer) {a b c d a' b' c' d' a'' b'' c'' d'' : List ℤ}
-      → Lent a b c d → k < 128 → is_refused u ≡ false
-      → After (k + 1) f a b c d u a' b' c' d' → Stored r k a' b' c' d' a'' b'' c'' d''
-      → After k (with_row r f) a b c d u a'' b'' c'' d''
-  after_stored (refused m) u l g e w s = absurd (false≢true (sym (rw w.answer at e)))
-  after_stored (read h z rs) u {a} {b} {c} {d} l g e w s =
+  pub after_stored : (f : File) (w : LinesRead) {a b c d a' b' c' d' a'' b'' c'' d'' : List ℤ}
+      → Lent a b c d → k < 128
+      → After (k + 1) f a b c d (Ok w) a' b' c' d' → Stored r k a' b' c' d' a'' b'' c'' d''
+      → After k (with_row r f) a b c d (Ok w) a'' b'' c'' d''
+  after_stored (refused m) u l g w s = let q : ◌≡◌ {A = ℕ} 0 1 = cc w.answer in absurd (omega arith)
+  after_stored (read h z rs) u {a} {b} {c} {d} l g w s =
       let i : k + 1 + length rs ≡ k + suc (length rs) = omega arith in
       record {
         answer = w.answer ∙ rw i;

@@ -1,9 +1,9 @@
 -- What the contracts of the functions that read lines are written with. Nobody needs this to believe the call's contract. Assumes nothing.
-use Rattle.std.specs.Prelude.{ℕ, ◌+◌, ◌≡◌, Bool, true, false, List, ◌++◌, map, ℤ, length, take, drop}
+use Rattle.std.specs.Prelude.{ℕ, ◌+◌, ◌≡◌, List, ◌++◌, map, ℤ, length, take, drop, Result, Ok, Err}
 use Rattle.allocation_row.specs.declared.Row.{Row}
+use Rattle.allocation_row.specs.declared.FileCause.{FileCause}
 use Rattle.allocation_lines.specs.Turns.{File, refused, read}
-use Rattle.allocation_lines.specs.declared.LinesAnswer.{LinesAnswer}
-use Rattle.allocation_lines.specs.declared.LinesAnswer.TheVariants.{Refused, Read}
+use Rattle.allocation_lines.specs.declared.LinesRead.{LinesRead}
 
 -- ---- the lists lent
 
@@ -14,21 +14,16 @@ pub record Lent (a b c d : List ℤ) : Type 0 where
   pub titles : length c ≡ 128
   pub poolings : length d ≡ 128
 
--- a refusal
-abbrev pub is_refused : LinesAnswer → Bool
-is_refused (Refused c) = true
-is_refused (Read r) = false
-
 -- ---- the lines from place k on, with k lines before them: the answer, and a list lent
-abbrev pub answer_from : ℕ → File → LinesAnswer
-answer_from k (refused c) = Refused c
-answer_from k (read h z rs) = Read (record { hour = h; zone = z; lines = k + length rs })
+abbrev pub answer_from : ℕ → File → Result LinesRead FileCause
+answer_from k (refused c) = Err c
+answer_from k (read h z rs) = Ok (record { hour = h; zone = z; lines = k + length rs })
 
 abbrev pub list_from : (Row → ℤ) → ℕ → File → List ℤ → List ℤ
 list_from f k (refused c) xs = xs
 list_from f k (read h z rs) xs = take k xs ++ (map f rs ++ drop (k + length rs) xs)
 
-pub record After (k : ℕ) (f : File) (a b c d : List ℤ) (r : LinesAnswer) (a' b' c' d' : List ℤ) : Type 0 where
+pub record After (k : ℕ) (f : File) (a b c d : List ℤ) (r : Result LinesRead FileCause) (a' b' c' d' : List ℤ) : Type 0 where
   pub answer : r ≡ answer_from k f
   pub entries : a' ≡ list_from (λ w. w.entry) k f a
   pub exits : b' ≡ list_from (λ w. w.exit) k f b

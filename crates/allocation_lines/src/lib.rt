@@ -5,38 +5,23 @@
 ghost use Rattle.std.specs.Prelude.{◌≡◌, ◌≤◌, drop};
 ghost use Rattle.csv_lines.specs.Lines.{lines};
 ghost use Rattle.allocation_lines.specs.Turns.{in_turn, body_of};
-ghost use Rattle.allocation_lines.specs.Steps.{Lent, After, is_refused};
+ghost use Rattle.allocation_lines.specs.Steps.{Lent, After};
 
-use allocation_row::{Line, follows_on, read_row, store};
+use allocation_row::{FileCause, follows_on, read_row, store};
 use csv_lines::line_at;
 
 // What lines that are read say besides their amounts: the hour, the zone's number and how many lines there are.
-#[derive(Clone, Copy)]
+#[derive(Clone, Copy, PartialEq, Eq)]
 pub struct LinesRead {
     pub hour: u32,
     pub zone: u32,
     pub lines: u32,
 }
 
-// The cause of a refusal, 14 to 17, or what the lines say.
-#[derive(Clone, Copy)]
-pub enum LinesAnswer {
-    Refused(u64),
-    Read(LinesRead),
-}
-
-fn is_refused(answer: LinesAnswer) -> bool
-    ensures { result ≡ is_refused answer }
-{
-    match answer {
-        LinesAnswer::Refused(_) => true,
-        LinesAnswer::Read(_) => false,
-    }
-}
-
 // Reads the lines from `at` on, the first of which is at `place`, in a file of `hour` and `zone`. A line is checked
 // before the lines after it are read, and stored once they all are: so a refusal touches no list, and no line is read
-// twice. The calls are at most 129 deep: no row follows at place 128.
+// twice. The calls are at most 129 deep: no row follows at place 128. (The four lists are parameters, and no struct of
+// `&mut` lists: no clause can say of one that the lists that come back are the ones lent.)
 fn read_lines(
     file: &[u8],
     at: usize,
@@ -47,7 +32,7 @@ fn read_lines(
     exits: &mut [i64],
     titles: &mut [i64],
     poolings: &mut [i64],
-) -> LinesAnswer
+) -> Result<LinesRead, FileCause>
     requires { (place ≤ 128) × Lent entries.old exits.old titles.old poolings.old }
     ensures { After place (in_turn hour zone (lines (drop at file.now)) place)
         entries.old exits.old titles.old poolings.old
@@ -56,18 +41,15 @@ fn read_lines(
 {
     if file.len() <= at {
         let lines = place as u32;
-        return LinesAnswer::Read(LinesRead { hour, zone, lines });
+        return Ok(LinesRead { hour, zone, lines });
     }
     let line = line_at(file, at);
     let next = at + line.len() + 2;
-    let row = match read_row(line) {
-        Line::Faulty(cause) => return LinesAnswer::Refused(cause),
-        Line::Good(row) => row,
-    };
+    let row = read_row(line)?;
     if !follows_on(row, place, hour, zone) {
-        return LinesAnswer::Refused(16);
+        return Err(FileCause::Turn);
     }
-    let answer = read_lines(
+    let read = read_lines(
         file,
         next,
         place + 1,
@@ -77,12 +59,9 @@ fn read_lines(
         exits,
         titles,
         poolings,
-    );
-    if is_refused(answer) {
-        return answer;
-    }
+    )?;
     store(row, place, entries, exits, titles, poolings);
-    answer
+    Ok(read)
 }
 
 // Reads the lines from `at` on, where the header ends. The first line gives the hour and the zone, and is then read in
@@ -94,7 +73,7 @@ pub fn read_body(
     exits: &mut [i64],
     titles: &mut [i64],
     poolings: &mut [i64],
-) -> LinesAnswer
+) -> Result<LinesRead, FileCause>
     requires { Lent entries.old exits.old titles.old poolings.old }
     ensures { After 0 (body_of (lines (drop at file.now)))
         entries.old exits.old titles.old poolings.old
@@ -102,12 +81,10 @@ pub fn read_body(
         entries.new exits.new titles.new poolings.new }
 {
     if file.len() <= at {
-        return LinesAnswer::Refused(17);
+        return Err(FileCause::NoLine);
     }
-    match read_row(line_at(file, at)) {
-        Line::Faulty(cause) => LinesAnswer::Refused(cause),
-        Line::Good(first) => read_lines(
-            file, at, 0, first.hour, first.zone, entries, exits, titles, poolings,
-        ),
-    }
+    let first = read_row(line_at(file, at))?;
+    read_lines(
+        file, at, 0, first.hour, first.zone, entries, exits, titles, poolings,
+    )
 }

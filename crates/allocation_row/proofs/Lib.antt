@@ -1,3 +1,2 @@
--- The laws of the zone's letter, and of a row at its place.
-pub mod Zones
+-- The laws of a row at its place.
 pub mod Follows

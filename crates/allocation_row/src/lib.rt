@@ -5,14 +5,48 @@
 
 ghost use Rattle.std.specs.Prelude.{◌≡◌, length};
 ghost use Rattle.csv_lines.specs.Lines.{fields};
-ghost use Rattle.allocation_row.specs.Rows.{is_plain, is_form, zone_of, as_row, fields_of, row_of, follows};
+ghost use Rattle.allocation_row.specs.Causes.{number};
+ghost use Rattle.allocation_row.specs.Rows.{is_plain, is_form, zone_of, fields_of, row_of, follows};
 ghost use Rattle.allocation_row.specs.Steps.{Within, Stored};
 
 use csv_lines::field;
-use text::number::{Amount, Unsigned, read_amount, read_unsigned};
+use text::number::{read_amount, read_unsigned};
+
+// The causes for turning a file away, each under the papers' words.
+#[derive(Clone, Copy, PartialEq, Eq)]
+pub enum FileCause {
+    // "a reader's list not of 128 places"
+    Lists,
+    // "header differs"
+    Header,
+    // "a line's form or field count"
+    Form,
+    // "a field's number or zone letter"
+    Field,
+    // "h or z differs from the first line, or g is not the next place below 128"
+    Turn,
+    // "no line after the header"
+    NoLine,
+}
+
+impl FileCause {
+    // The papers' number.
+    pub fn number(self) -> u64
+        ensures { result ≡ number self }
+    {
+        match self {
+            FileCause::Lists => 12,
+            FileCause::Header => 13,
+            FileCause::Form => 14,
+            FileCause::Field => 15,
+            FileCause::Turn => 16,
+            FileCause::NoLine => 17,
+        }
+    }
+}
 
 // What a line's seven fields say.
-#[derive(Clone, Copy)]
+#[derive(Clone, Copy, PartialEq, Eq)]
 pub struct Row {
     pub hour: u32,
     pub zone: u32,
@@ -21,13 +55,6 @@ pub struct Row {
     pub exit: i64,
     pub title: i64,
     pub pooling: i64,
-}
-
-// What a line by itself says: its row, or the cause 14 or 15.
-#[derive(Clone, Copy)]
-pub enum Line {
-    Good(Row),
-    Faulty(u64),
 }
 
 // No quote mark, CR or LF.
@@ -45,123 +72,64 @@ fn has_form(line: &[u8]) -> bool
     ensures { result ≡ is_form line.now }
 {
     let mut count: usize = 1;
-    let mut i = 0;
-    while i < line.len() {
-        let b = line[i];
-        if !is_plain(b) {
+    for b in line {
+        if !is_plain(*b) {
             return false;
         }
-        if b == b',' {
+        if *b == b',' {
             count += 1;
         }
-        i += 1;
     }
     count == 7
 }
 
-// The zone's number: H is 0, L is 1.
-fn read_zone(field: &[u8]) -> Unsigned
+// The zone's letter as its number.
+fn read_zone(field: &[u8]) -> Option<u32>
     ensures { result ≡ zone_of field.now }
 {
-    if field.len() == 1 {
-        match field[0] {
-            b'H' => Unsigned::Number(0),
-            b'L' => Unsigned::Number(1),
-            _ => Unsigned::NoNumber,
-        }
-    } else {
-        Unsigned::NoNumber
+    match field {
+        [b'H'] => Some(0),
+        [b'L'] => Some(1),
+        _ => None,
     }
 }
 
-// Seven fields as a row, if each is well-formed.
-fn as_row(
-    hour: Unsigned,
-    zone: Unsigned,
-    place: Unsigned,
-    entry: Amount,
-    exit: Amount,
-    title: Amount,
-    pooling: Amount,
-) -> Line
-    ensures { result ≡ as_row hour zone place entry exit title pooling }
-{
-    let Unsigned::Number(hour) = hour else {
-        return Line::Faulty(15);
-    };
-    let Unsigned::Number(zone) = zone else {
-        return Line::Faulty(15);
-    };
-    let Unsigned::Number(place) = place else {
-        return Line::Faulty(15);
-    };
-    let Amount::Kwh(entry) = entry else {
-        return Line::Faulty(15);
-    };
-    let Amount::Kwh(exit) = exit else {
-        return Line::Faulty(15);
-    };
-    let Amount::Kwh(title) = title else {
-        return Line::Faulty(15);
-    };
-    let Amount::Kwh(pooling) = pooling else {
-        return Line::Faulty(15);
-    };
-    Line::Good(Row {
-        hour,
-        zone,
-        place,
-        entry,
-        exit,
-        title,
-        pooling,
-    })
-}
-
-// The fields of a line that has seven.
-fn read_fields(line: &[u8]) -> Line
+// The fields of a line that has seven, as a row, if each is well-formed.
+#[tactic(auto, unfolding(crate::specs::Rows::as_row))]
+fn read_fields(line: &[u8]) -> Option<Row>
     requires { length (fields line.now) ≡ 7 }
     ensures { result ≡ fields_of line.now }
 {
-    as_row(
-        read_unsigned(field(line, 0)),
-        read_zone(field(line, 1)),
-        read_unsigned(field(line, 2)),
-        read_amount(field(line, 3)),
-        read_amount(field(line, 4)),
-        read_amount(field(line, 5)),
-        read_amount(field(line, 6)),
-    )
+    Some(Row {
+        hour: read_unsigned(field(line, 0))?,
+        zone: read_zone(field(line, 1))?,
+        place: read_unsigned(field(line, 2))?,
+        entry: read_amount(field(line, 3))?,
+        exit: read_amount(field(line, 4))?,
+        title: read_amount(field(line, 5))?,
+        pooling: read_amount(field(line, 6))?,
+    })
 }
 
-// A line by itself: 14 goes before 15.
-pub fn read_row(line: &[u8]) -> Line
+// A line by itself: its row, or the cause; the form goes before the fields.
+pub fn read_row(line: &[u8]) -> Result<Row, FileCause>
     ensures { result ≡ row_of line.now }
 {
-    if has_form(line) {
-        read_fields(line)
-    } else {
-        Line::Faulty(14)
+    if !has_form(line) {
+        return Err(FileCause::Form);
     }
+    read_fields(line).ok_or(FileCause::Field)
 }
 
 // Whether a row may stand at `place` in a file of `hour` and `zone`.
 pub fn follows_on(row: Row, place: usize, hour: u32, zone: u32) -> bool
     ensures { result ≡ follows hour zone place row }
 {
-    if row.hour != hour {
-        return false;
-    }
-    if row.zone != zone {
-        return false;
-    }
-    if row.place as usize != place {
-        return false;
-    }
-    place < 128
+    row.hour == hour && row.zone == zone && row.place as usize == place && place < 128
 }
 
-// Puts a row's four amounts at `place`.
+// Puts a row's four amounts at `place`. (Four lists and no struct of `&mut` lists: no clause can say of one that the lists that come
+// back are the ones lent.)
 pub fn store(
     row: Row,
     place: usize,
@@ -175,12 +143,8 @@ pub fn store(
         entries.old exits.old titles.old poolings.old
         entries.new exits.new titles.new poolings.new }
 {
-    let entry = row.entry;
-    let exit = row.exit;
-    let title = row.title;
-    let pooling = row.pooling;
-    entries[place] = entry;
-    exits[place] = exit;
-    titles[place] = title;
-    poolings[place] = pooling;
+    entries[place] = row.entry;
+    exits[place] = row.exit;
+    titles[place] = row.title;
+    poolings[place] = row.pooling;
 }

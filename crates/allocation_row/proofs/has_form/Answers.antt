@@ -1,4 +1,4 @@
--- The bytes from `i` on are plain where all are, and have the fields that `count` does not count yet. Assumes nothing.
+-- The bytes from the index on are plain where all are, and have the fields that `count` does not count yet. Assumes nothing.
 use mathlib.Core.Path.{◌≡◌, sym, ap, ◌∙◌}
 use mathlib.Core.List.{List}
 use Prim.Native.Nat.{ℕ}
@@ -16,21 +16,24 @@ pub returns-then-not-is_plain : goal.returns-then-not-is_plain
 returns-then-not-is_plain c =
     let l = c.args.line.now in
     let odd = sym c.is_plain.ensures ∙ c.if-not-is_plain.true in
-    sym (rw (c.loop-i.invariant.2 ∙ every_stop is_plain l c.loop-i.i 0 (search rules) odd))
+    sym (rw (c.loop-b.invariant.plain ∙ every_stop is_plain l c.loop-b.b-index 0 (search rules) odd))
 
-pub loop-i-preserved : goal.loop-i-preserved
-loop-i-preserved c =
+pub loop-b-preserved : goal.loop-b-preserved
+loop-b-preserved c =
     let l = c.args.line.now in
+    let i = c.loop-b.b-index in
     let plain = sym c.is_plain.ensures ∙ c.if-not-is_plain.false in
-    let p = c.loop-i.invariant.2 ∙ every-next is_plain l c.loop-i.i 0 (search rules) plain in
+    let p = c.loop-b.invariant.plain ∙ every-next is_plain l i 0 (search rules) plain in
     elim c.if-b-eq44.branch [
-      | then-b-eq44 w ↦ (omega arith, omega arith, p, omega (arith, count-comma l c.loop-i.i (search rules) w.if-b-eq44.true))
-      | else-b-eq44 w ↦ (omega arith, omega arith, p, omega (arith, count_other l c.loop-i.i (search rules) w.if-b-eq44.false))
+      | then-b-eq44 w ↦
+          record { few = omega (arith, c.loop-b.invariant.few); plain = p; counted = omega (arith, c.loop-b.invariant.counted, count-comma l i (search rules) w.if-b-eq44.true) }
+      | else-b-eq44 w ↦
+          record { few = omega (arith, c.loop-b.invariant.few); plain = p; counted = omega (arith, c.loop-b.invariant.counted, count_other l i (search rules) w.if-b-eq44.false) }
     ]
 
 pub returns : goal.returns
 returns c =
     let l = c.args.line.now in
-    let e = drop_of_length-le l {i = c.loop-i.i} (search rules) in
-    let n : length (fields l) ≡ c.loop-i.count = omega (arith, ap (λ (l : List ℕ). length (fields l)) e) in
-    rw (c.loop-i.invariant.2 ∙ every_end is_plain l c.loop-i.i (search rules), n)
+    let e = drop_of_length-le l {i = c.loop-b.b-index} (search rules) in
+    let n : length (fields l) ≡ c.loop-b.count = omega (arith, c.loop-b.invariant.counted, ap (λ (l : List ℕ). length (fields l)) e) in
+    rw (c.loop-b.invariant.plain ∙ every_end is_plain l c.loop-b.b-index (search rules), n)
