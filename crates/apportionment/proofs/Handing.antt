@@ -1,11 +1,10 @@
 -- The passes that hand out the spare units by a cut. Assumes nothing.
 use mathlib.Core.Path.{◌≡◌, refl, sym, ap, ◌∙◌}
 use mathlib.Core.Bool.{Bool, true, false, ◌&&◌, ◌||◌}
-use mathlib.Core.Logic.{⊎_elim}
 use mathlib.Core.List.{List}
-use Prim.Native.Nat.{ℕ, zero, suc, ◌+◌, ◌-◌, ◌/◌, ◌≤◌, ◌<◌}
+use Prim.Native.Nat.{ℕ, zero, suc, ◌+◌, ◌-◌, ◌≤◌, ◌<◌}
 use native.Mathlib.Omega.{arith}
-use native.Mathlib.Nat.{eq-or-lt_of_le, not-suc-le-zero, le_of_suc-le-suc}
+use native.Mathlib.Nat.{not-suc-le-zero, le_of_suc-le-suc}
 use native.Mathlib.Numerals.{add-one}
 use lib.Dec.{ltb, eqb}
 use lib.IntN.{ℤ, pos, ◌+ℤ◌, +ℤ_idr}
@@ -17,12 +16,8 @@ use Rattle.integers.proofs.Counts.{bit-ltb, length-tabulate, get_or-tabulate}
 use Rattle.largest_remainder.specs.Cuts.{same, IsCut, taken}
 use Rattle.apportionment.specs.Steps.{raised_by, CutAsks}
 use Rattle.largest_remainder.proofs.Cuts.{above_mono, ltb_iff, taken-sum}
-use Rattle.rules.specs.Limits.{market_most}
 
--- the test by the top bit
-pub top_bit : (r at base : ℕ) → base + at ≡ 9223372036854775807 → r ≤ market_most → (r + base) / 9223372036854775808 ≡ bit (ltb at r)
-top_bit r at base e h = omega (arith, bit-ltb at r)
-
+-- a test as a number
 pub bit-ltb-le : (at r : ℕ) → bit (ltb at r) ≤ 1
 bit-ltb-le at r = omega (arith, bit-ltb at r)
 
@@ -83,10 +78,6 @@ tabulate-part f (suc i) (suc k) (suc n) h l = omega (arith, tabulate-part (λ j.
 module _ (rs : List ℕ) (n at ties : ℕ) (cut : IsCut rs n at ties) (i : ℕ) where
   got_all : got rs at ties (length rs) ≡ n
   got_all = taken-sum rs at ties cut.fits ∙ cut.adds
-
-  -- while units are left, so is a place
-  pub got-less : got rs at ties i < n → i ≤ length rs → i < length rs
-  got-less h l = ⊎_elim (λ (e : i ≡ length rs). absurd (omega (arith, ap (got rs at ties) e, got_all))) (λ q. q) (eq-or-lt_of_le l)
 
   -- when none is left, the places that follow stay as they were
   pub got_done : (old : List ℤ) → length rs ≡ length old → n ≤ got rs at ties i → drop i (raised_by rs at ties old) ≡ drop i old

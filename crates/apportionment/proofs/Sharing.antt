@@ -1,6 +1,6 @@
 -- The pass that turns the sizes into whole units and remainders. Assumes nothing.
 use mathlib.Core.Path.{◌≡◌, refl, sym, ap, ◌∙◌}
-use mathlib.Core.List.{List, map}
+use mathlib.Core.List.{List, [], ◌∷◌, map}
 use Prim.Native.Nat.{ℕ, ◌+◌, ◌-◌, ◌*◌, ◌/◌, ◌%◌, ◌≤◌, ◌<◌, min, max, zero-le}
 use native.Mathlib.Omega.{arith}
 use native.Mathlib.Nat.{mul-le-mul, mul-zero, zero-mod, zero-div}
@@ -8,6 +8,8 @@ use lib.Dec.{ltb}
 use lib.IntN.{ℤ, pos}
 use lib.ListN.{length, get_or, take, set, length-map}
 use lib.Seq.{take_all}
+use Rattle.std.specs.List as Prelude
+use Rattle.std.proofs.lemmas.List.Sums.{sum_by-cons}
 use Rattle.integers.specs.Lists.{count, sum}
 use Rattle.integers.proofs.Counts.{bit-ltb, count-step, sum_step, sum-take-le, sum-le, get_or-map_at}
 use Rattle.integers.proofs.Passes.{Written, written_none, written_elem, written_next, written_all}
@@ -17,6 +19,12 @@ use Rattle.apportionment.specs.Steps.{Input, Shared}
 use Rattle.largest_remainder.proofs.Cuts.{above_mono}
 use Rattle.largest_remainder.proofs.Parts.{wholes_le, fraction-less}
 use Rattle.rules.specs.Limits.{position_most, market_most}
+
+-- the sum of the library is that of the rules
+pub sum_same : (xs : List ℕ) → Prelude.sum xs ≡ sum xs
+unfolding sum
+sum_same [] = refl
+sum_same (x ∷ xs) = sum_by-cons (λ n. n) x xs ∙ ap (λ n. x + n) (sum_same xs)
 
 -- the sum of the sizes is within its bound
 pub sum_fits : (sizes : List ℕ) (total : ℕ) → Input sizes total → sum sizes ≤ market_most

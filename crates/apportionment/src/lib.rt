@@ -25,22 +25,17 @@ fn share_of(total: u64, size: u64, sum: u64) -> Share
     ensures { (result.whole ≡ total * size / sum) × (result.fraction ≡ total * size % sum) }
 {
     if size == 0 {
-        return Share {
+        Share {
             whole: 0,
             fraction: 0,
-        };
+        }
+    } else {
+        let product = total * size;
+        Share {
+            whole: product / sum,
+            fraction: product % sum,
+        }
     }
-    let product = total * size;
-    Share {
-        whole: product / sum,
-        fraction: product % sum,
-    }
-}
-
-fn larger(a: u64, b: u64) -> u64
-    ensures { result ≡ max a b }
-{
-    if a < b { b } else { a }
 }
 
 // A number no larger than `low` that `remainder` is above, unless it is 0.
@@ -48,23 +43,10 @@ fn below(low: u64, remainder: u64) -> u64
     ensures { (result ≤ low) × (min 1 remainder ≤ remainder - result) }
 {
     if remainder == 0 {
-        return low;
+        low
+    } else {
+        low.min(remainder - 1)
     }
-    let before = remainder - 1;
-    if before < low { before } else { low }
-}
-
-fn sum_of(sizes: &[u64]) -> u64
-    requires { sum sizes.now ≤ market_most }
-    ensures { result ≡ sum sizes.now }
-{
-    let mut added: u64 = 0;
-    let mut i: usize = 0;
-    while i < sizes.len() {
-        added += sizes[i];
-        i += 1;
-    }
-    added
 }
 
 // What a pass over the sizes finds: the whole units together, and the ends between which a cut of the remainders lies.
@@ -86,34 +68,35 @@ fn share_all(sizes: &mut [u64], total: u64, sum_of_sizes: u64, out: &mut [i64]) 
     let mut given: u64 = 0;
     let mut low: u64 = sum_of_sizes;
     let mut top: u64 = 0;
-    let mut i: usize = 0;
-    while i < sizes.len() {
+    for i in 0..sizes.len() {
         let share = share_of(total, sizes[i], sum_of_sizes);
-        let whole = share.whole;
-        let fraction = share.fraction;
-        out[i] = integers::signed(whole);
-        sizes[i] = fraction;
-        given += whole;
-        low = below(low, fraction);
-        top = larger(top, fraction);
-        i += 1;
+        out[i] = share.whole as i64;
+        sizes[i] = share.fraction;
+        given += share.whole;
+        low = below(low, share.fraction);
+        top = top.max(share.fraction);
     }
     Shares { given, low, top }
 }
 
 // ---- the cut
 
-// How many remainders are above `at`: by the top bit of a sum, without a branch.
+// 1 for a remainder above `at`, and otherwise 0: by the top bit of a sum, without a branch.
+fn bit_above(remainder: u64, at: u64) -> u64
+    requires { (remainder ≤ market_most) × (at ≤ market_most) }
+    ensures { result ≡ bit (ltb at remainder) }
+{
+    (remainder + (TOP_BIT - 1 - at)) / TOP_BIT
+}
+
+// How many remainders are above `at`.
 fn count_above(remainders: &[u64], at: u64) -> u64
     requires { (at ≤ market_most) × Bounded remainders.now }
     ensures { result ≡ above remainders.now at }
 {
-    let base: u64 = TOP_BIT - 1 - at;
     let mut n: u64 = 0;
-    let mut i: usize = 0;
-    while i < remainders.len() {
-        n += (remainders[i] + base) / TOP_BIT;
-        i += 1;
+    for remainder in remainders {
+        n += bit_above(*remainder, at);
     }
     n
 }
@@ -157,30 +140,25 @@ fn find_cut(remainders: &[u64], spare: u64, low: u64, top: u64) -> Cut
 
 // ---- the spare units
 
-// 1 for a remainder that the cut takes, while `ties` are left for those that are `at`.
-fn unit_for(remainder: u64, at: u64, ties: u64) -> u64
-    ensures { result ≡ bit (ltb at remainder || eqb at remainder && ltb 0 ties) }
+// 1 for a remainder that the cut takes, and otherwise 0.
+fn unit_for(remainder: u64, cut: Cut) -> u64
+    ensures { result ≡ bit (ltb cut.at remainder || eqb cut.at remainder && ltb 0 cut.ties) }
 {
-    if remainder > at {
-        return 1;
-    }
-    if remainder == at {
-        if ties > 0 {
-            return 1;
-        }
-    }
-    0
+    u64::from(remainder > cut.at || remainder == cut.at && cut.ties > 0)
 }
 
-fn ties_after(remainder: u64, at: u64, ties: u64) -> u64
-    ensures { result ≡ ties - bit (eqb at remainder) }
+// The cut for the remainders that follow: one tie less after a remainder that is `at`.
+fn after(remainder: u64, cut: Cut) -> Cut
+    ensures { (result.at ≡ cut.at) × (result.ties ≡ cut.ties - bit (eqb cut.at remainder)) }
 {
-    if remainder == at {
-        if ties > 0 {
-            return ties - 1;
+    if remainder == cut.at {
+        Cut {
+            ties: cut.ties.saturating_sub(1),
+            ..cut
         }
+    } else {
+        cut
     }
-    ties
 }
 
 fn plus(x: i64, unit: u64) -> i64
@@ -191,47 +169,43 @@ fn plus(x: i64, unit: u64) -> i64
 }
 
 // In place order, ending with the last spare unit.
-fn hand_out_ties(remainders: &[u64], at: u64, ties: u64, spare: u64, out: &mut [i64])
-    requires { HandAsks remainders.now at ties spare out.old }
-    ensures { out.new ≡ raised_by remainders.now at ties out.old }
+fn hand_out_ties(remainders: &[u64], cut: Cut, spare: u64, out: &mut [i64])
+    requires { HandAsks remainders.now cut.at cut.ties spare out.old }
+    ensures { out.new ≡ raised_by remainders.now cut.at cut.ties out.old }
 {
-    let mut left = ties;
+    let mut left = cut;
     let mut units = spare;
-    let mut i: usize = 0;
-    while units > 0 {
-        let remainder = remainders[i];
-        let unit = unit_for(remainder, at, left);
-        left = ties_after(remainder, at, left);
+    for i in 0..remainders.len() {
+        if units == 0 {
+            return;
+        }
+        let unit = unit_for(remainders[i], left);
         out[i] = plus(out[i], unit);
+        left = after(remainders[i], left);
         units -= unit;
-        i += 1;
     }
 }
 
-// Without ties no branch is needed: by the top bit, as in `count_above`.
+// Without ties no branch is needed.
 fn hand_out_above(remainders: &[u64], at: u64, spare: u64, out: &mut [i64])
     requires { HandAsks remainders.now at 0 spare out.old }
     ensures { out.new ≡ raised_by remainders.now at 0 out.old }
 {
-    let base: u64 = TOP_BIT - 1 - at;
-    let mut i: usize = 0;
-    while i < remainders.len() {
-        let unit = (remainders[i] + base) / TOP_BIT;
-        out[i] = plus(out[i], unit);
-        i += 1;
+    for i in 0..remainders.len() {
+        out[i] = plus(out[i], bit_above(remainders[i], at));
     }
 }
 
 // One spare unit to each place that the cut takes.
-fn hand_out(remainders: &[u64], at: u64, ties: u64, spare: u64, out: &mut [i64])
-    requires { HandAsks remainders.now at ties spare out.old }
-    ensures { out.new ≡ raised_by remainders.now at ties out.old }
+fn hand_out(remainders: &[u64], cut: Cut, spare: u64, out: &mut [i64])
+    requires { HandAsks remainders.now cut.at cut.ties spare out.old }
+    ensures { out.new ≡ raised_by remainders.now cut.at cut.ties out.old }
 {
-    if ties == 0 {
-        hand_out_above(remainders, at, spare, out);
-        return;
+    if cut.ties == 0 {
+        hand_out_above(remainders, cut.at, spare, out);
+    } else {
+        hand_out_ties(remainders, cut, spare, out);
     }
-    hand_out_ties(remainders, at, ties, spare, out);
 }
 
 // ---- the rule
@@ -242,10 +216,10 @@ pub fn apportion(sizes: &mut [u64], total: u64, out: &mut [i64])
     requires input { Input sizes.old total }
     ensures { Apportioned sizes.old total sizes.new out.new }
 {
-    let sum_of_sizes = sum_of(sizes);
+    let sum_of_sizes = sizes.iter().sum();
     let shares = share_all(sizes, total, sum_of_sizes, out);
     let spare = total - shares.given;
     let cut = find_cut(sizes, spare, shares.low, shares.top);
-    hand_out(sizes, cut.at, cut.ties, spare, out);
-    integers::clear_unsigned(sizes);
+    hand_out(sizes, cut, spare, out);
+    sizes.fill(0);
 }

@@ -1,43 +1,41 @@
 -- What the closing of a part and of the table have to show between their calls. Assumes nothing.
 use mathlib.Core.Path.{◌≡◌, sym, ap, ◌∙◌}
 use mathlib.Core.Bool.{true, false}
-use mathlib.Core.List.{List, ◌++◌, map}
+use mathlib.Core.List.{List, ◌++◌}
 use Prim.Native.Nat.{ℕ, ◌≤◌}
 use native.Mathlib.Omega.{arith}
 use lib.IntN.{ℤ, pos}
 use lib.ListN.{length, take, drop, replicate, length-take, length-drop}
 use Rattle.integers.specs.Ranges.{is_zero}
-use Rattle.integers.specs.Lists.{sum_ℤ, AtMost}
+use Rattle.integers.specs.Lists.{AtMost}
 use Rattle.integers.proofs.Passes.{every_take}
 use Rattle.rules.specs.declared.ClosingTerms.{ClosingTerms}
 use Rattle.rules.specs.Limits.{users_most, position_most, position_fit}
-use Rattle.rules.specs.Market.{moneys}
+use Rattle.rules.specs.Market.{moneys, sold, bought}
 use Rattle.rules.proofs.Small.{positions_small}
 use Rattle.rules.proofs.Zones.{part_h, part_l, with_h, with_l}
-use Rattle.closing.specs.Steps.{traded_of, Asks, PartLeaves, TableAsks, TableLeaves}
-use Rattle.closing.proofs.Sizes.{sold_is, bought_is}
+use Rattle.closing.specs.Steps.{Asks, PartLeaves, TableAsks, TableLeaves}
 
 -- the quantities w, which are the first places of the part
-module _ {p : List ℤ} {k : ClosingTerms} {q m : List ℤ} (a : Asks p k q m) (n : ℕ) (en : n ≡ length q) where
-  pub copy_asked : length q ≡ length (take n p)
+module _ {p : List ℤ} {k : ClosingTerms} {q m : List ℤ} (a : Asks p k q m) where
+  pub copy_asked : length q ≡ length (take (length q) p)
   copy_asked = simp length-take (omega (arith, a.room))
 
-  module _ (w : List ℤ) (ew : w ≡ take n p) where
+  module _ (w : List ℤ) (ew : w ≡ take (length q) p) where
     pub quantity_asked : (length w ≤ users_most) × AtMost position_most w
-    quantity_asked = rw ew (simp length-take (omega (arith, a.few)), positions_small _ (every_take position_fit n p a.positions))
+    quantity_asked = rw ew (simp length-take (omega (arith, a.few)), positions_small _ (every_take position_fit (length q) p a.positions))
 
     pub money_asked : length m ≡ length w
     money_asked = a.moneys ∙ copy_asked ∙ sym (ap length ew)
 
-    pub part_left : (p' m' : List ℤ) (s b : ℤ) → m' ≡ moneys k.excess_price k.shortfall_price w
-        → s ≡ sum_ℤ (map (traded_of true) w) → b ≡ sum_ℤ (map (traded_of false) w)
+    pub part_left : (p' m' : List ℤ) (s b : ℤ) → m' ≡ moneys k.excess_price k.shortfall_price w → s ≡ sold w → b ≡ bought w
         → p' ≡ replicate (length p) (pos 0) → PartLeaves (length q) p p' k w m' s b
     part_left p' m' s b em es eb ep = record {
       lists = record {
-        quantity = rw (← en) ew;
-        money = rw (← en, ← ew) em;
-        sold = rw (← en, ← ew) (es ∙ sold_is w);
-        bought = rw (← en, ← ew) (eb ∙ bought_is w);
+        quantity = ew;
+        money = rw (← ew) em;
+        sold = rw (← ew) es;
+        bought = rw (← ew) eb;
       };
       places = ep;
     }

@@ -1,5 +1,5 @@
 -- What the closing of a zone asks and leaves, as its contracts state it. A reader who believes the rules need not believe these. Assumes nothing.
-use Rattle.std.specs.Prelude.{◌≡◌, Bool, true, cond, List, ℕ, ◌≤◌, ℤ, pos, neg_ℤ, length, take, replicate}
+use Rattle.std.specs.Prelude.{◌≡◌, true, cond, List, ℕ, ◌≤◌, ℤ, pos, neg_ℤ, length, take, replicate}
 use Rattle.std.specs.Int.Signed.{lt_z}
 use Rattle.integers.specs.Lists.{every}
 use Rattle.rules.specs.declared.ClosingTerms.{ClosingTerms}
@@ -14,9 +14,6 @@ sold_of q = cond (lt_z (pos 0) q) q (pos 0)
 
 unfoldable pub bought_of : ℤ → ℤ
 bought_of q = cond (lt_z q (pos 0)) (neg_ℤ q) (pos 0)
-
-unfoldable pub traded_of : Bool → ℤ → ℤ
-traded_of sale q = cond sale (sold_of q) (bought_of q)
 
 -- of a zone's part p, with a place for each user
 pub record Asks (p : List ℤ) (k : ClosingTerms) (q m : List ℤ) : Type 0 where

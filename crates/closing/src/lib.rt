@@ -2,11 +2,11 @@
 
 #![tactic(auto)]
 
-ghost use Rattle.std.specs.Prelude.{◌≡◌, map, ◌≤◌, nat_abs, length};
-ghost use Rattle.integers.specs.Lists.{sum_ℤ, AtMost};
+ghost use Rattle.std.specs.Prelude.{◌≡◌, ◌≤◌, nat_abs, length};
+ghost use Rattle.integers.specs.Lists.{AtMost};
 ghost use Rattle.rules.specs.Limits.{users_most, position_most, price_most};
-ghost use Rattle.rules.specs.Market.{money_of, moneys};
-ghost use Rattle.closing.specs.Steps.{sold_of, bought_of, traded_of, Asks, PartLeaves, TableAsks, TableLeaves};
+ghost use Rattle.rules.specs.Market.{money_of, moneys, sold, bought};
+ghost use Rattle.closing.specs.Steps.{sold_of, bought_of, Asks, PartLeaves, TableAsks, TableLeaves};
 
 use rules::ClosingTerms;
 
@@ -26,79 +26,52 @@ fn money_of(excess_price: i64, shortfall_price: i64, quantity: i64) -> i64
     ensures { result ≡ money_of excess_price shortfall_price quantity }
 {
     if quantity > 0 {
-        integers::product(quantity, excess_price)
+        quantity * excess_price
     } else {
-        integers::product(quantity, shortfall_price)
+        quantity * shortfall_price
     }
 }
 
+// A sale's size, and 0 for a purchase.
 fn sold_of(quantity: i64) -> i64
     ensures { result ≡ sold_of quantity }
 {
-    if quantity > 0 { quantity } else { 0 }
+    quantity.max(0)
 }
 
+// A purchase's size, and 0 for a sale.
 fn bought_of(quantity: i64) -> i64
     requires { nat_abs quantity ≤ position_most }
     ensures { result ≡ bought_of quantity }
 {
-    if quantity < 0 {
-        integers::negated(quantity)
-    } else {
-        0
-    }
-}
-
-// A sale's size, or a purchase's; 0 of the other kind.
-fn traded_of(sale: bool, quantity: i64) -> i64
-    requires { nat_abs quantity ≤ position_most }
-    ensures { result ≡ traded_of sale quantity }
-{
-    if sale {
-        sold_of(quantity)
-    } else {
-        bought_of(quantity)
-    }
+    (-quantity).max(0)
 }
 
 // ---- all users
-
-fn copy_all(positions: &[i64], quantity: &mut [i64])
-    requires { length quantity.old ≡ length positions.now }
-    ensures { quantity.new ≡ positions.now }
-{
-    let mut i: usize = 0;
-    while i < positions.len() {
-        quantity[i] = positions[i];
-        i += 1;
-    }
-}
 
 fn money_all(excess_price: i64, shortfall_price: i64, quantity: &[i64], money: &mut [i64])
     requires { (nat_abs excess_price ≤ price_most) × (nat_abs shortfall_price ≤ price_most)
         × (length money.old ≡ length quantity.now) × AtMost position_most quantity.now }
     ensures { money.new ≡ moneys excess_price shortfall_price quantity.now }
 {
-    let mut i: usize = 0;
-    while i < quantity.len() {
+    // By index: a `zip` over `iter_mut` leaves its loop without a name for the list that is written, which the invariant needs.
+    for i in 0..quantity.len() {
         money[i] = money_of(excess_price, shortfall_price, quantity[i]);
-        i += 1;
     }
 }
 
-// The sum of the sales, or of the purchases, as sizes.
-fn traded_all(sale: bool, quantity: &[i64]) -> i64
+// The sum of the sales and that of the purchases, as sizes.
+fn sums_of(quantity: &[i64]) -> Sums
     requires { (length quantity.now ≤ users_most) × AtMost position_most quantity.now }
-    ensures { result ≡ sum_ℤ (map (traded_of sale) quantity.now) }
+    ensures { (result.sold ≡ sold quantity.now) × (result.bought ≡ bought quantity.now) }
 {
-    let mut sum: i64 = 0;
-    let mut i: usize = 0;
-    while i < quantity.len() {
-        let size = traded_of(sale, quantity[i]);
-        sum = sum + size;
-        i += 1;
+    let mut sold = 0;
+    let mut bought = 0;
+    for traded in quantity {
+        sold += sold_of(*traded);
+        bought += bought_of(*traded);
     }
-    sum
+    Sums { sold, bought }
 }
 
 // ---- a zone
@@ -114,13 +87,12 @@ fn close_part(
     ensures { PartLeaves (length quantity.old) part.old part.new terms
         quantity.new money.new result.sold result.bought }
 {
-    let n = quantity.len();
-    copy_all(&part[0..n], quantity);
+    let users = quantity.len();
+    quantity.copy_from_slice(&part[..users]);
     money_all(terms.excess_price, terms.shortfall_price, quantity, money);
-    let sold = traded_all(true, quantity);
-    let bought = traded_all(false, quantity);
-    integers::clear(part);
-    Sums { sold, bought }
+    let sums = sums_of(quantity);
+    part.fill(0);
+    sums
 }
 
 // A closing works on its zone's part of the table and leaves the other part untouched.
@@ -134,7 +106,7 @@ pub fn close_table(
     ensures { TableLeaves (length quantity.old) table.old table.new terms
         quantity.new money.new result.sold result.bought }
 {
-    if integers::is_zero(terms.zone) {
+    if terms.zone == 0 {
         close_part(&mut table[0..128], terms, quantity, money)
     } else {
         close_part(&mut table[128..256], terms, quantity, money)

@@ -1,3 +1,2 @@
--- What the constructors answer, and the places of a default in its table.
-pub mod Checked
+-- The places of a default in its table.
 pub mod Lookup

@@ -3,7 +3,7 @@ ghost use Rattle.std.specs.Prelude.{◌≡◌, true, [], ◌<◌, get_or};
 ghost use Rattle.rules.specs.Limits.{zone_fit, month_fit};
 ghost use Rattle.rules.specs.Thresholds.{upper_gwh, upper_default};
 
-const KWH_PER_GWH: u64 = 1_000_000;
+const KWH_PER_GWH: i64 = 1_000_000;
 
 const UPPER_GWH: [[u8; 12]; 2] = [
     [22, 22, 22, 25, 29, 29, 30, 30, 29, 25, 22, 22],
@@ -11,6 +11,7 @@ const UPPER_GWH: [[u8; 12]; 2] = [
 ];
 
 // By the zone's row and the month's column, both from 0.
+#[tactic(auto, unfolding(rules::specs::Thresholds::upper_gwh))]
 fn upper_gwh(row: usize, column: usize) -> u8
     requires { (row < 2) × (column < 12) }
     ensures { result ≡ get_or (get_or upper_gwh row []) column 0 }
@@ -25,5 +26,5 @@ pub fn upper_default(month: i64, zone: i64) -> i64
 {
     let row = integers::natural(zone);
     let column = integers::natural(month - 1);
-    integers::signed(upper_gwh(row, column) as u64 * KWH_PER_GWH)
+    i64::from(upper_gwh(row, column)) * KWH_PER_GWH
 }

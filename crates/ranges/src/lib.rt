@@ -12,53 +12,51 @@ use rules::{Day, HourTerms};
 pub mod defaults;
 pub mod limits;
 
+#[tactic(auto, unfolding(rules::specs::Limits::users_fit))]
 pub fn users_fit(users: i64) -> bool
     ensures { result ≡ users_fit users }
 {
-    integers::within(Day::USERS_LEAST, Day::USERS_MOST, users)
+    Day::USERS_LEAST <= users && users <= Day::USERS_MOST
 }
 
+#[tactic(auto, unfolding(rules::specs::Limits::length_fit))]
 pub fn length_fit(length: i64) -> bool
     ensures { result ≡ length_fit length }
 {
-    integers::within(Day::LENGTH_LEAST, Day::LENGTH_MOST, length)
+    Day::LENGTH_LEAST <= length && length <= Day::LENGTH_MOST
 }
 
+#[tactic(auto, unfolding(rules::specs::Limits::zone_fit))]
 pub fn zone_fit(zone: i64) -> bool
     ensures { result ≡ zone_fit zone }
 {
-    integers::within(0, 1, zone)
+    0 <= zone && zone <= 1
 }
 
+#[tactic(auto, unfolding(rules::specs::Limits::month_fit))]
 pub fn month_fit(month: i64) -> bool
     ensures { result ≡ month_fit month }
 {
-    integers::within(1, 12, month)
+    1 <= month && month <= 12
 }
 
+#[tactic(auto, unfolding(rules::specs::Causes::prices_fit))]
 pub fn prices_fit(excess: i64, shortfall: i64) -> bool
     ensures { result ≡ prices_fit excess shortfall }
 {
-    integers::both(
-        Price::checked(excess).fits(),
-        Price::checked(shortfall).fits(),
-    )
+    Price::checked(excess).is_some() && Price::checked(shortfall).is_some()
 }
 
 fn thresholds_fit(upper: i64, lower: i64) -> bool
     ensures { result ≡ (upper_fit upper && lower_fit lower) }
 {
-    integers::both(
-        Threshold::checked_upper(upper).fits(),
-        Threshold::checked_lower(lower).fits(),
-    )
+    Threshold::checked_upper(upper).is_some() && Threshold::checked_lower(lower).is_some()
 }
 
+#[tactic(auto, unfolding(rules::specs::Causes::terms_fit))]
 pub fn terms_fit(terms: HourTerms) -> bool
     ensures { result ≡ terms_fit terms }
 {
-    integers::both(
-        thresholds_fit(terms.upper, terms.lower),
-        prices_fit(terms.excess_price, terms.shortfall_price),
-    )
+    thresholds_fit(terms.upper, terms.lower)
+        && prices_fit(terms.excess_price, terms.shortfall_price)
 }

@@ -1,30 +1,38 @@
 // The limits of document 01, named here once, with the kind of amount that they bound. A single number becomes one of its kind only through a constructor that
 // accepts exactly what is within the limits. The amounts of an hour come as lists: their kinds hold no number, and test a list in one pass.
-ghost use Rattle.std.specs.Prelude.{◌≡◌};
+ghost use Rattle.std.specs.Prelude.{◌≡◌, Bool, ℤ, pos, neg_ℤ, refl};
 ghost use Rattle.integers.specs.Lists.{every};
+ghost use Rattle.integers.specs.Ranges.{in_range};
+ghost use Rattle.rules.specs.Limits.{entry_most, exit_most, title_most, pooling_most, position_most, price_most};
 ghost use Rattle.rules.specs.Limits.{entry_fit, exit_fit, title_fit, pooling_fit, position_fit, upper_fit, lower_fit, price_fit};
-ghost use Rattle.ranges.specs.Kinds.{fits, only_if};
+ghost use Rattle.ranges.specs.Kinds.{only_if};
 
-// What a constructor answers: the number as one of its kind, or that it is out of range.
-#[derive(Clone, Copy)]
-pub enum Checked {
-    Position(Position),
-    Threshold(Threshold),
-    Price(Price),
-    OutOfRange,
-}
+// A kind of number with its limits, and the test of the rules that they stand for.
+pub trait Kind {
+    const LEAST: i64;
 
-impl Checked {
-    pub fn fits(self) -> bool
-        ensures { result ≡ fits self }
+    const MOST: i64;
+
+    ghost LEAST: { ℤ };
+
+    ghost MOST: { ℤ };
+
+    ghost fit: { ℤ → Bool };
+
+    fn fits(number: i64) -> bool
+        ensures { result ≡ fit number }
     {
-        match self {
-            Checked::Position(_) => true,
-            Checked::Threshold(_) => true,
-            Checked::Price(_) => true,
-            Checked::OutOfRange => false,
-        }
+        Self::LEAST <= number && number <= Self::MOST
     }
+
+    // Every number of a list, in one pass.
+    fn all_fit(list: &[i64]) -> bool
+        ensures { result ≡ every fit list.now }
+    {
+        integers::all_within(Self::LEAST, Self::MOST, list)
+    }
+
+    ghost is_fit: { (x : ℤ) → in_range LEAST MOST x ≡ fit x };
 }
 
 // ---- single numbers
@@ -35,29 +43,57 @@ pub struct Position {
     pub kwh: i64,
 }
 
+impl Kind for Position {
+    const LEAST: i64 = -Self::MOST;
+
+    const MOST: i64 = 100_000_000;
+
+    ghost LEAST = { neg_ℤ (pos position_most) };
+
+    ghost MOST = { pos position_most };
+
+    ghost fit = { position_fit };
+
+    ghost is_fit = { λ x. unfold position_fit in refl };
+}
+
 impl Position {
-    pub const MOST: i64 = 100_000_000;
-
-    pub const LEAST: i64 = -Position::MOST;
-
-    pub fn checked(kwh: i64) -> Checked
-        ensures { result ≡ only_if (position_fit kwh) (Checked.Position (record { kwh = kwh })) }
+    pub fn checked(kwh: i64) -> Option<Position>
+        ensures { result ≡ only_if (position_fit kwh) (record { kwh = kwh }) }
     {
-        if integers::within(Position::LEAST, Position::MOST, kwh) {
-            Checked::Position(Position { kwh })
-        } else {
-            Checked::OutOfRange
-        }
-    }
-
-    pub fn all_fit(list: &[i64]) -> bool
-        ensures { result ≡ every position_fit list.now }
-    {
-        integers::all_within(Position::LEAST, Position::MOST, list)
+        Position::fits(kwh).then_some(Position { kwh })
     }
 }
 
-// A threshold of the market position in kWh.
+// A price in millionths of a euro per kWh.
+#[derive(Clone, Copy)]
+pub struct Price {
+    pub micros: i64,
+}
+
+impl Kind for Price {
+    const LEAST: i64 = -Self::MOST;
+
+    const MOST: i64 = 10_000_000;
+
+    ghost LEAST = { neg_ℤ (pos price_most) };
+
+    ghost MOST = { pos price_most };
+
+    ghost fit = { price_fit };
+
+    ghost is_fit = { λ x. unfold price_fit in refl };
+}
+
+impl Price {
+    pub fn checked(micros: i64) -> Option<Price>
+        ensures { result ≡ only_if (price_fit micros) (record { micros = micros }) }
+    {
+        Price::fits(micros).then_some(Price { micros })
+    }
+}
+
+// A threshold of the market position in kWh: of two ranges, so that it is no `Kind`.
 #[derive(Clone, Copy)]
 pub struct Threshold {
     pub kwh: i64,
@@ -72,46 +108,20 @@ impl Threshold {
 
     pub const LOWER_MOST: i64 = 0;
 
-    pub fn checked_upper(kwh: i64) -> Checked
-        ensures { result ≡ only_if (upper_fit kwh) (Checked.Threshold (record { kwh = kwh })) }
+    #[tactic(auto, unfolding(rules::specs::Limits::upper_fit))]
+    pub fn checked_upper(kwh: i64) -> Option<Threshold>
+        ensures { result ≡ only_if (upper_fit kwh) (record { kwh = kwh }) }
     {
-        if integers::within(Threshold::UPPER_LEAST, Threshold::UPPER_MOST, kwh) {
-            Checked::Threshold(Threshold { kwh })
-        } else {
-            Checked::OutOfRange
-        }
+        let fits = Threshold::UPPER_LEAST <= kwh && kwh <= Threshold::UPPER_MOST;
+        fits.then_some(Threshold { kwh })
     }
 
-    pub fn checked_lower(kwh: i64) -> Checked
-        ensures { result ≡ only_if (lower_fit kwh) (Checked.Threshold (record { kwh = kwh })) }
+    #[tactic(auto, unfolding(rules::specs::Limits::lower_fit))]
+    pub fn checked_lower(kwh: i64) -> Option<Threshold>
+        ensures { result ≡ only_if (lower_fit kwh) (record { kwh = kwh }) }
     {
-        if integers::within(Threshold::LOWER_LEAST, Threshold::LOWER_MOST, kwh) {
-            Checked::Threshold(Threshold { kwh })
-        } else {
-            Checked::OutOfRange
-        }
-    }
-}
-
-// A price in millionths of a euro per kWh.
-#[derive(Clone, Copy)]
-pub struct Price {
-    pub micros: i64,
-}
-
-impl Price {
-    pub const MOST: i64 = 10_000_000;
-
-    pub const LEAST: i64 = -Price::MOST;
-
-    pub fn checked(micros: i64) -> Checked
-        ensures { result ≡ only_if (price_fit micros) (Checked.Price (record { micros = micros })) }
-    {
-        if integers::within(Price::LEAST, Price::MOST, micros) {
-            Checked::Price(Price { micros })
-        } else {
-            Checked::OutOfRange
-        }
+        let fits = Threshold::LOWER_LEAST <= kwh && kwh <= Threshold::LOWER_MOST;
+        fits.then_some(Threshold { kwh })
     }
 }
 
@@ -121,62 +131,70 @@ impl Price {
 #[derive(Clone, Copy)]
 pub struct Entry {}
 
-impl Entry {
-    pub const LEAST: i64 = 0;
+impl Kind for Entry {
+    const LEAST: i64 = 0;
 
-    pub const MOST: i64 = 50_000_000;
+    const MOST: i64 = 50_000_000;
 
-    pub fn all_fit(list: &[i64]) -> bool
-        ensures { result ≡ every entry_fit list.now }
-    {
-        integers::all_within(Entry::LEAST, Entry::MOST, list)
-    }
+    ghost LEAST = { pos 0 };
+
+    ghost MOST = { pos entry_most };
+
+    ghost fit = { entry_fit };
+
+    ghost is_fit = { λ x. unfold entry_fit in refl };
 }
 
 // Exits (XEA): already negative.
 #[derive(Clone, Copy)]
 pub struct Exit {}
 
-impl Exit {
-    pub const LEAST: i64 = -50_000_000;
+impl Kind for Exit {
+    const LEAST: i64 = -50_000_000;
 
-    pub const MOST: i64 = 0;
+    const MOST: i64 = 0;
 
-    pub fn all_fit(list: &[i64]) -> bool
-        ensures { result ≡ every exit_fit list.now }
-    {
-        integers::all_within(Exit::LEAST, Exit::MOST, list)
-    }
+    ghost LEAST = { neg_ℤ (pos exit_most) };
+
+    ghost MOST = { pos 0 };
+
+    ghost fit = { exit_fit };
+
+    ghost is_fit = { λ x. unfold exit_fit in refl };
 }
 
 // Net title transfers (NCTTN).
 #[derive(Clone, Copy)]
 pub struct Title {}
 
-impl Title {
-    pub const MOST: i64 = 50_000_000;
+impl Kind for Title {
+    const LEAST: i64 = -Self::MOST;
 
-    pub const LEAST: i64 = -Title::MOST;
+    const MOST: i64 = 50_000_000;
 
-    pub fn all_fit(list: &[i64]) -> bool
-        ensures { result ≡ every title_fit list.now }
-    {
-        integers::all_within(Title::LEAST, Title::MOST, list)
-    }
+    ghost LEAST = { neg_ℤ (pos title_most) };
+
+    ghost MOST = { pos title_most };
+
+    ghost fit = { title_fit };
+
+    ghost is_fit = { λ x. unfold title_fit in refl };
 }
 
 // Pooling transfers (IPT).
 #[derive(Clone, Copy)]
 pub struct Pooling {}
 
-impl Pooling {
-    pub const MOST: i64 = 100_000_000;
+impl Kind for Pooling {
+    const LEAST: i64 = -Self::MOST;
 
-    pub const LEAST: i64 = -Pooling::MOST;
+    const MOST: i64 = 100_000_000;
 
-    pub fn all_fit(list: &[i64]) -> bool
-        ensures { result ≡ every pooling_fit list.now }
-    {
-        integers::all_within(Pooling::LEAST, Pooling::MOST, list)
-    }
+    ghost LEAST = { neg_ℤ (pos pooling_most) };
+
+    ghost MOST = { pos pooling_most };
+
+    ghost fit = { pooling_fit };
+
+    ghost is_fit = { λ x. unfold pooling_fit in refl };
 }

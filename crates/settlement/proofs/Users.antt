@@ -11,6 +11,7 @@ use Rattle.integers.specs.Lists.{sum_ℤ, AtMost}
 use Rattle.integers.proofs.Sizes.{size-sub}
 use Rattle.integers.proofs.Sums.{sum_bound, at_most_tail}
 use Rattle.rules.specs.Limits.{users_most, position_most, market_most}
+use Rattle.rules.specs.declared.Amounts.{Amounts}
 use Rattle.rules.specs.declared.HourTerms.{HourTerms}
 use Rattle.rules.specs.declared.Marks.{Marks}
 use Rattle.rules.specs.declared.Outcome.{Outcome}
@@ -63,15 +64,15 @@ sizes_small i (p ∷ ps) s zero = omega (arith, size-le i p, s.at 0)
 sizes_small i (p ∷ ps) s (suc j) = sizes_small i ps (at_most_tail s) j
 
 -- ---- by the positions before, z
-module _ {p e x t i : List ℤ} {k : HourTerms} {q m : List ℤ} {s : List ℕ} (a : Asks p e x t i k q m s) (z : List ℤ) (ez : z ≡ befores p e x t i) where
-  z_long : length z ≡ length e
-  z_long = ap length ez ∙ length-befores p e x t i
+module _ {p : List ℤ} {a : Amounts} {k : HourTerms} {q m : List ℤ} {s : List ℕ} (g : Asks p a k q m s) (z : List ℤ) (ez : z ≡ befores p a) where
+  z_long : length z ≡ length a.entries.now
+  z_long = ap length ez ∙ length-befores p a
 
   z_small : AtMost position_most z
-  z_small = rw ez (positions_small (befores p e x t i) a.positions)
+  z_small = rw ez (positions_small (befores p a) g.positions)
 
   pub sum_asked : (length z ≤ users_most) × AtMost position_most z
-  sum_asked = (omega (arith, z_long, a.amounts.lent.few), z_small)
+  sum_asked = (omega (arith, z_long, g.amounts.lent.few), z_small)
 
   pub market_small : nat_abs (sum_ℤ z) ≤ market_most
   market_small = omega (arith, sum_bound z z_small, sum_asked.0)
@@ -84,15 +85,15 @@ module _ {p e x t i : List ℤ} {k : HourTerms} {q m : List ℤ} {s : List ℕ} 
   of_view : (up : Bool) (n : ℕ) → View k.upper k.lower (sum_ℤ z) (side up n) → Total up n
   unfolding side
   of_view true n (is_excess over is) =
-      let h = thresholds_sound k a.terms in
+      let h = thresholds_sound k g.terms in
       record {
-        size = omega (arith, ap nat_abs is, size-sub (sum_ℤ z) k.upper, (terms_small k a.terms).upper, market_small);
+        size = omega (arith, ap nat_abs is, size-sub (sum_ℤ z) k.upper, (terms_small k g.terms).upper, market_small);
         shareable = share_excess k.upper k.lower z h.0 h.1 n over is;
       }
   of_view false n (is_shortfall under is) =
-      let h = thresholds_sound k a.terms in
+      let h = thresholds_sound k g.terms in
       record {
-        size = omega (arith, ap nat_abs is, size-sub k.lower (sum_ℤ z), (terms_small k a.terms).lower, market_small);
+        size = omega (arith, ap nat_abs is, size-sub k.lower (sum_ℤ z), (terms_small k g.terms).lower, market_small);
         shareable = share_shortfall k.upper k.lower z h.0 h.1 n under is;
       }
 
@@ -113,15 +114,15 @@ module _ {p e x t i : List ℤ} {k : HourTerms} {q m : List ℤ} {s : List ℕ} 
         some = of_side.shareable.some;
         within = omega (arith, of_side.shareable.enough, total-side up n);
       };
-      positions = rw ez a.positions;
-      terms = a.terms;
-      quantities = a.quantities ∙ sym z_long;
-      moneys = a.moneys ∙ sym z_long;
-      scratches = a.scratches ∙ sym z_long;
+      positions = rw ez g.positions;
+      terms = g.terms;
+      quantities = g.quantities ∙ sym z_long;
+      moneys = g.moneys ∙ sym z_long;
+      scratches = g.scratches ∙ sym z_long;
     }
 
     pub side_left : (z' q' m' : List ℤ) (s' : List ℕ) (r : Marks) → SideLeaves up n z z' k q' m' s s' r
-        → (o : Outcome) → o ≡ outcome (side up n) z → UsersLeave p z' e x t i k q' m' s s' o
+        → (o : Outcome) → o ≡ outcome (side up n) z → UsersLeave p z' a k q' m' s s' o
     side_left z' q' m' s' r v o eo = record {
       lists = record {
         quantity = rw (← ez, ← is) v.quantity;
@@ -135,11 +136,11 @@ module _ {p e x t i : List ℤ} {k : HourTerms} {q m : List ℤ} {s : List ℕ} 
   -- neither
   pub within_left : within ≡ imbalance k.upper k.lower z → (q' m' : List ℤ) (s' : List ℕ)
       → q' ≡ replicate (length q) (pos 0) → m' ≡ replicate (length m) (pos 0) → s' ≡ replicate (length s) 0
-      → UsersLeave p z e x t i k q' m' s s' Within
+      → UsersLeave p z a k q' m' s s' Within
   unfolding outcome after
   within_left is q' m' s' eq eμ es =
-      let lq : length q ≡ length z = a.quantities ∙ sym z_long in
-      let lm : length m ≡ length z = a.moneys ∙ sym z_long in
+      let lq : length q ≡ length z = g.quantities ∙ sym z_long in
+      let lm : length m ≡ length z = g.moneys ∙ sym z_long in
       record {
         lists = record {
           quantity = rw (← ez, ← is, no_quantities z) (eq ∙ ap (λ (j : ℕ). replicate j (pos 0)) lq);

@@ -1,21 +1,22 @@
 -- What the settlement of a zone asks and leaves, step by step, as its contracts state it. A reader who believes the rules need not believe these. Assumes nothing.
 use Rattle.std.specs.Prelude.{◌≡◌, true, List, ℕ, ℤ, length, replicate}
 use Rattle.integers.specs.Lists.{every}
+use Rattle.rules.specs.declared.Amounts.{Amounts}
 use Rattle.rules.specs.declared.HourTerms.{HourTerms}
 use Rattle.rules.specs.declared.Outcome.{Outcome}
 use Rattle.rules.specs.Limits.{position_fit}
 use Rattle.rules.specs.Days.{part, with_part, onto}
 use Rattle.rules.specs.Market.{imbalance, quantities, after, moneys, outcome}
 use Rattle.rules.specs.Causes.{terms_fit}
-use Rattle.positions.specs.Before.{befores, Amounts}
+use Rattle.positions.specs.Before.{befores, InRange}
 
-pub record Asks (p e x t i : List ℤ) (k : HourTerms) (q m : List ℤ) (s : List ℕ) : Type 0 where
-  pub amounts : Amounts p e x t i
-  pub positions : every position_fit (befores p e x t i) ≡ true
+pub record Asks (p : List ℤ) (a : Amounts) (k : HourTerms) (q m : List ℤ) (s : List ℕ) : Type 0 where
+  pub amounts : InRange p a
+  pub positions : every position_fit (befores p a) ≡ true
   pub terms : terms_fit k ≡ true
-  pub quantities : length q ≡ length e
-  pub moneys : length m ≡ length e
-  pub scratches : length s ≡ length e
+  pub quantities : length q ≡ length a.entries.now
+  pub moneys : length m ≡ length a.entries.now
+  pub scratches : length s ≡ length a.entries.now
 
 -- of the lists, by the positions before
 pub record Leaves (ps : List ℤ) (k : HourTerms) (q' m' : List ℤ) (s s' : List ℕ) (r : Outcome) : Type 0 where
@@ -28,18 +29,18 @@ pub record Leaves (ps : List ℤ) (k : HourTerms) (q' m' : List ℤ) (s s' : Lis
 abbrev pub afters : HourTerms → List ℤ → List ℤ
 afters k ps = after (imbalance k.upper k.lower ps) ps
 
-pub record UsersLeave (p p' e x t i : List ℤ) (k : HourTerms) (q' m' : List ℤ) (s s' : List ℕ) (r : Outcome) : Type 0 where
-  pub lists : Leaves (befores p e x t i) k q' m' s s' r
-  pub places : p' ≡ afters k (befores p e x t i)
+pub record UsersLeave (p p' : List ℤ) (a : Amounts) (k : HourTerms) (q' m' : List ℤ) (s s' : List ℕ) (r : Outcome) : Type 0 where
+  pub lists : Leaves (befores p a) k q' m' s s' r
+  pub places : p' ≡ afters k (befores p a)
 
-pub record ZoneLeaves (p p' e x t i : List ℤ) (k : HourTerms) (q' m' : List ℤ) (s s' : List ℕ) (r : Outcome) : Type 0 where
-  pub lists : Leaves (befores p e x t i) k q' m' s s' r
-  pub places : p' ≡ onto (afters k (befores p e x t i)) p
+pub record ZoneLeaves (p p' : List ℤ) (a : Amounts) (k : HourTerms) (q' m' : List ℤ) (s s' : List ℕ) (r : Outcome) : Type 0 where
+  pub lists : Leaves (befores p a) k q' m' s s' r
+  pub places : p' ≡ onto (afters k (befores p a)) p
 
-pub record TableAsks (tb e x t i : List ℤ) (k : HourTerms) (q m : List ℤ) (s : List ℕ) : Type 0 where
+pub record TableAsks (tb : List ℤ) (a : Amounts) (k : HourTerms) (q m : List ℤ) (s : List ℕ) : Type 0 where
   pub long : length tb ≡ 256
-  pub lists : Asks (part k.zone tb) e x t i k q m s
+  pub lists : Asks (part k.zone tb) a k q m s
 
-pub record TableLeaves (tb tb' e x t i : List ℤ) (k : HourTerms) (q' m' : List ℤ) (s s' : List ℕ) (r : Outcome) : Type 0 where
-  pub lists : Leaves (befores (part k.zone tb) e x t i) k q' m' s s' r
-  pub table : tb' ≡ with_part k.zone (onto (afters k (befores (part k.zone tb) e x t i))) tb
+pub record TableLeaves (tb tb' : List ℤ) (a : Amounts) (k : HourTerms) (q' m' : List ℤ) (s s' : List ℕ) (r : Outcome) : Type 0 where
+  pub lists : Leaves (befores (part k.zone tb) a) k q' m' s s' r
+  pub table : tb' ≡ with_part k.zone (onto (afters k (befores (part k.zone tb) a))) tb

@@ -3,50 +3,43 @@
 #![tactic(auto)]
 
 ghost use Rattle.std.specs.Prelude.{◌≡◌, length};
-ghost use Rattle.positions.specs.Before.{befores, Amounts};
+ghost use Rattle.positions.specs.Before.{befores, InRange};
 ghost use Rattle.settlement.specs.Steps.{Asks, UsersLeave, ZoneLeaves, TableAsks, TableLeaves};
 
 use positions::Imbalance;
-use rules::{HourTerms, Outcome, Side};
+use rules::{Amounts, HourTerms, Outcome, Side};
+
+// The lists that are written stay parameters: the contract of a struct of `&mut` lists could not say that the lists that come back are the ones lent.
 
 // ---- the users of a zone
 
-fn add_amounts(positions: &mut [i64], entry: &[i64], exit: &[i64], title: &[i64], pooling: &[i64])
-    requires { (length positions.old ≡ length entry.now)
-        × Amounts positions.old entry.now exit.now title.now pooling.now }
-    ensures { positions.new ≡ befores positions.old
-        entry.now exit.now title.now pooling.now }
+fn add_amounts(positions: &mut [i64], amounts: &Amounts)
+    requires { (length positions.old ≡ length amounts.now.entries.now)
+        × InRange positions.old amounts.now }
+    ensures { positions.new ≡ befores positions.old amounts.now }
 {
-    let mut i: usize = 0;
-    while i < entry.len() {
-        positions[i] = positions::before_of(positions[i], entry[i], exit[i], title[i], pooling[i]);
-        i += 1;
+    for i in 0..positions.len() {
+        positions[i] = positions::before_of(positions[i], amounts, i);
     }
 }
 
 // Rules 1 to 6 on places that hold the users' positions and nothing else.
 fn settle_users(
     positions: &mut [i64],
-    entry: &[i64],
-    exit: &[i64],
-    title: &[i64],
-    pooling: &[i64],
+    amounts: &Amounts,
     terms: HourTerms,
     quantity: &mut [i64],
     money: &mut [i64],
     scratch: &mut [u64],
 ) -> Outcome
-    requires { (length positions.old ≡ length entry.now)
-        × Asks positions.old entry.now exit.now title.now pooling.now terms
-        quantity.old money.old scratch.old }
-    ensures { UsersLeave positions.old positions.new
-        entry.now exit.now title.now pooling.now terms
+    requires { (length positions.old ≡ length amounts.now.entries.now)
+        × Asks positions.old amounts.now terms quantity.old money.old scratch.old }
+    ensures { UsersLeave positions.old positions.new amounts.now terms
         quantity.new money.new scratch.old scratch.new result }
 {
-    add_amounts(positions, entry, exit, title, pooling);
+    add_amounts(positions, amounts);
     let market = positions::sum_of(positions);
-    let imbalance = positions::imbalance_of(terms, market);
-    match imbalance {
+    match positions::imbalance_of(terms, market) {
         Imbalance::Excess(total) => {
             let marked = sides::settle_side(
                 true, total, positions, terms, quantity, money, scratch,
@@ -60,9 +53,9 @@ fn settle_users(
             Outcome::Settled(Side::Shortfall(total as i64), marked)
         }
         Imbalance::Within => {
-            integers::clear(quantity);
-            integers::clear(money);
-            integers::clear_unsigned(scratch);
+            quantity.fill(0);
+            money.fill(0);
+            scratch.fill(0);
             Outcome::Within
         }
     }
@@ -71,72 +64,39 @@ fn settle_users(
 // The users' places are the first of whatever part is lent.
 fn settle_zone(
     part: &mut [i64],
-    entry: &[i64],
-    exit: &[i64],
-    title: &[i64],
-    pooling: &[i64],
+    amounts: &Amounts,
     terms: HourTerms,
     quantity: &mut [i64],
     money: &mut [i64],
     scratch: &mut [u64],
 ) -> Outcome
-    requires { Asks part.old entry.now exit.now title.now pooling.now terms
-        quantity.old money.old scratch.old }
-    ensures { ZoneLeaves part.old part.new
-        entry.now exit.now title.now pooling.now terms
+    requires { Asks part.old amounts.now terms quantity.old money.old scratch.old }
+    ensures { ZoneLeaves part.old part.new amounts.now terms
         quantity.new money.new scratch.old scratch.new result }
 {
-    let n = entry.len();
-    settle_users(
-        &mut part[0..n],
-        entry,
-        exit,
-        title,
-        pooling,
-        terms,
-        quantity,
-        money,
-        scratch,
-    )
+    let users = amounts.entries.len();
+    settle_users(&mut part[..users], amounts, terms, quantity, money, scratch)
 }
 
 // An hour works on its zone's part of the table and leaves the other part untouched.
 pub fn settle_table(
     table: &mut [i64],
-    entry: &[i64],
-    exit: &[i64],
-    title: &[i64],
-    pooling: &[i64],
+    amounts: &Amounts,
     terms: HourTerms,
     quantity: &mut [i64],
     money: &mut [i64],
     scratch: &mut [u64],
 ) -> Outcome
-    requires { TableAsks table.old entry.now exit.now title.now pooling.now terms
-        quantity.old money.old scratch.old }
-    ensures { TableLeaves table.old table.new
-        entry.now exit.now title.now pooling.now terms
+    requires { TableAsks table.old amounts.now terms quantity.old money.old scratch.old }
+    ensures { TableLeaves table.old table.new amounts.now terms
         quantity.new money.new scratch.old scratch.new result }
 {
-    if integers::is_zero(terms.zone) {
-        settle_zone(
-            &mut table[0..128],
-            entry,
-            exit,
-            title,
-            pooling,
-            terms,
-            quantity,
-            money,
-            scratch,
-        )
+    if terms.zone == 0 {
+        settle_zone(&mut table[0..128], amounts, terms, quantity, money, scratch)
     } else {
         settle_zone(
             &mut table[128..256],
-            entry,
-            exit,
-            title,
-            pooling,
+            amounts,
             terms,
             quantity,
             money,

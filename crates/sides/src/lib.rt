@@ -2,7 +2,7 @@
 
 #![tactic(auto)]
 
-ghost use Rattle.std.specs.Prelude.{◌≡◌, true, map, ◌≤◌, nat_abs, ◌-ℤ◌, length};
+ghost use Rattle.std.specs.Prelude.{◌≡◌, true, map, ◌≤◌, nat_abs, length};
 ghost use Rattle.integers.specs.Lists.{bit, AtMost};
 ghost use Rattle.rules.specs.Limits.{users_most, position_most, price_most};
 ghost use Rattle.rules.specs.Causes.{terms_fit};
@@ -11,6 +11,8 @@ ghost use Rattle.sides.specs.Sides.{side, turn, price_on, Booked, SideAsks, Side
 
 use rules::{HourTerms, Marks};
 
+// `up` is an excess, else a shortfall. It stays a `bool`: the definitions turn by the same `up`, and an enum would name the two cases once more.
+
 // ---- one user
 
 // A position as its side sees it: in a shortfall by negation.
@@ -18,7 +20,7 @@ fn turned(up: bool, x: i64) -> i64
     requires { nat_abs x ≤ position_most }
     ensures { result ≡ turn up x }
 {
-    if up { x } else { integers::negated(x) }
+    if up { x } else { -x }
 }
 
 // Rule 4: the size of a causer's position, and 0 for the others.
@@ -26,7 +28,7 @@ fn size_on(up: bool, position: i64) -> u64
     requires { nat_abs position ≤ position_most }
     ensures { result ≡ size (side up 0) position }
 {
-    integers::natural(turned(up, position)) as u64
+    turned(up, position).max(0) as u64
 }
 
 // Rule 3, as a bit.
@@ -34,17 +36,16 @@ fn mark_on(up: bool, position: i64) -> u64
     requires { nat_abs position ≤ position_most }
     ensures { result ≡ bit (caused (side up 0) position) }
 {
-    if turned(up, position) > 0 { 1 } else { 0 }
+    u64::from(turned(up, position) > 0)
 }
 
 fn size_all(up: bool, positions: &[i64], sizes: &mut [u64])
     requires { (length sizes.old ≡ length positions.now) × AtMost position_most positions.now }
     ensures { sizes.new ≡ map (size (side up 0)) positions.now }
 {
-    let mut i: usize = 0;
-    while i < positions.len() {
+    // By index: a `zip` over `iter_mut` leaves its loop without a name for the list that is written, which the invariant needs.
+    for i in 0..positions.len() {
         sizes[i] = size_on(up, positions[i]);
-        i += 1;
     }
 }
 
@@ -53,19 +54,11 @@ fn word_of(up: bool, positions: &[i64]) -> u64
     requires { (length positions.now ≤ 64) × AtMost position_most positions.now }
     ensures { result ≡ word (map (caused (side up 0)) positions.now) }
 {
-    let mut w: u64 = 0;
-    let mut i: usize = positions.len();
-    while i > 0 {
-        i -= 1;
-        w = 2 * w + mark_on(up, positions[i]);
+    let mut word = 0;
+    for position in positions.iter().rev() {
+        word = 2 * word + mark_on(up, *position);
     }
-    w
-}
-
-fn least(a: usize, b: usize) -> usize
-    ensures { (result ≤ a) × (result ≤ b) × (a ≤ b → result ≡ a) × (b ≤ a → result ≡ b) }
-{
-    if a < b { a } else { b }
+    word
 }
 
 // The causers in two words; the number of marks is the sum of their counts of ones.
@@ -73,14 +66,14 @@ fn marks_of(up: bool, positions: &[i64]) -> Marks
     requires { (length positions.now ≤ users_most) × AtMost position_most positions.now }
     ensures { result ≡ marks (causers (side up 0) positions.now) }
 {
-    let n = positions.len();
-    let c = least(n, 64);
-    let first = word_of(up, &positions[0..c]);
-    let second = word_of(up, &positions[c..n]);
+    let split = positions.len().min(64);
+    let first = word_of(up, &positions[..split]);
+    let second = word_of(up, &positions[split..]);
+    let number = u64::from(first.count_ones()) + u64::from(second.count_ones());
     Marks {
         first,
         second,
-        number: u64::count_ones(first) as u64 + u64::count_ones(second) as u64,
+        number,
     }
 }
 
@@ -97,13 +90,6 @@ fn price_on(up: bool, terms: HourTerms) -> i64
     }
 }
 
-fn minus(position: i64, quantity: i64) -> i64
-    requires { (nat_abs position ≤ position_most) × (nat_abs quantity ≤ position_most) }
-    ensures { result ≡ position -ℤ quantity }
-{
-    position - quantity
-}
-
 // The settled sizes in `quantity` become quantities; money and positions after go with them.
 fn book_all(up: bool, price: i64, positions: &mut [i64], quantity: &mut [i64], money: &mut [i64])
     requires { (length quantity.old ≡ length positions.old) × (length money.old ≡ length positions.old)
@@ -113,13 +99,11 @@ fn book_all(up: bool, price: i64, positions: &mut [i64], quantity: &mut [i64], m
         positions.old positions.new
         quantity.old quantity.new money.new }
 {
-    let mut i: usize = 0;
-    while i < positions.len() {
-        let q = turned(up, quantity[i]);
-        quantity[i] = q;
-        money[i] = integers::product(q, price);
-        positions[i] = minus(positions[i], q);
-        i += 1;
+    for i in 0..positions.len() {
+        let sold = turned(up, quantity[i]);
+        quantity[i] = sold;
+        money[i] = sold * price;
+        positions[i] -= sold;
     }
 }
 

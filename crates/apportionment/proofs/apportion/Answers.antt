@@ -1,13 +1,24 @@
 -- Each call is handed what the one before it left (proofs/Whole.antt). Assumes nothing.
-use mathlib.Core.Path.{◌∙◌, ap}
-use Prim.Native.Nat.{ℕ}
-use lib.ListN.{replicate}
-use Rattle.apportionment.proofs.Sharing.{sum_fits}
+use mathlib.Core.Path.{◌≡◌, ◌∙◌, ap}
+use Prim.Native.Nat.{ℕ, ◌^◌, ◌<◌}
+use lib.ListN.{length, replicate}
+use borrow.Author.Rules.{rules}
+use native.Mathlib.Omega.{arith}
+use Rattle.std.specs.List as Prelude
+use Rattle.apportionment.proofs.Sharing.{sum_same, sum_fits}
 use Rattle.apportionment.proofs.Whole.{given-le, cut_asked, hand_asked, rests_length, settled_by}
 use Rattle.apportionment.proofs.apportion.Goals as goal
 
-pub sum_of-sum_of_sizes-requires : goal.sum_of-sum_of_sizes-requires
-sum_of-sum_of_sizes-requires c = sum_fits c.args.sizes.now c.args.total c.requires.input
+pub sum-sum_of_sizes-requires-clause-fits : goal.sum-sum_of_sizes-requires-clause-fits
+sum-sum_of_sizes-requires-clause-fits c =
+    let s = c.args.sizes.now in
+    let small : Prelude.sum s < 2 ^ 64 = omega (arith, sum_same s, sum_fits s c.args.total c.requires.input) in
+    search rules
+
+pub share_all-shares-requires-clause-sum_of_sizes_value : goal.share_all-shares-requires-clause-sum_of_sizes_value
+share_all-shares-requires-clause-sum_of_sizes_value c =
+    let total : c.sum-sum_of_sizes.result ≡ Prelude.sum c.args.sizes.now = search rules in
+    total ∙ sum_same c.args.sizes.now
 
 pub overflow_sub-spare : goal.overflow_sub-spare
 overflow_sub-spare c = given-le c.requires.input c.share_all-shares.ensures
@@ -20,7 +31,8 @@ hand_out-requires c = hand_asked c.requires.input c.share_all-shares.ensures _ _
 
 pub returns : goal.returns
 returns c =
+    let cleared : c.fill.new.self ≡ replicate (length c.share_all-shares.new.sizes) 0 = search rules in
     record {
       shares = c.hand_out.ensures ∙ settled_by c.requires.input c.share_all-shares.ensures _ _ c.find_cut-cut.ensures.0;
-      cleared = c.clear_unsigned.ensures ∙ ap (λ (n : ℕ). replicate n 0) (rests_length c.requires.input c.share_all-shares.ensures);
+      cleared = cleared ∙ ap (λ (n : ℕ). replicate n 0) (rests_length c.requires.input c.share_all-shares.ensures);
     }

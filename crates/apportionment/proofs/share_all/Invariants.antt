@@ -1,11 +1,6 @@
 -- The pass of proofs/Sharing.antt. Assumes nothing.
-use lib.ListN.{length}
 use Rattle.apportionment.proofs.Sharing.{Sharing}
-use Prim.Native.Nat.{◌-◌}
 use Rattle.apportionment.proofs.share_all.Given as goal
 
 abbrev pub invariant-loop-i : goal.invariant-loop-i
 invariant-loop-i l = Sharing l.initial.sizes l.total l.initial.out l.sizes l.out l.given l.low l.top l.i
-
-abbrev pub decreases-loop-i : goal.decreases-loop-i
-decreases-loop-i l = length l.initial.sizes - l.i

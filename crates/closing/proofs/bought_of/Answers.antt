@@ -1,18 +1,18 @@
--- By the sign. Assumes nothing.
+-- The negation, where that is above zero. Assumes nothing.
 use mathlib.Core.Path.{◌≡◌, ap, ◌∙◌}
-use mathlib.Core.Bool.{true}
-use Rattle.integers.proofs.Machine.{read, back}
-use lib.IntN.{pos, neg_ℤ}
-use lib.Signed.{lt_z}
-use Rattle.closing.specs.Steps.{bought_of}
+use native.Mathlib.Omega.{arith}
+use lib.IntN.{ℤ, pos, neg_ℤ, ◌-ℤ◌, +ℤ_idl}
+use mir.Syntax.{w64}
+use mir.Val.{to_z, of_z}
+use Rattle.std.specs.Int.{int_max}
+use Rattle.integers.proofs.Machine.{read, back, fits}
+use Rattle.integers.proofs.Sizes.{size-neg}
+use Rattle.closing.proofs.Sizes.{bought_max}
 use Rattle.closing.proofs.bought_of.Goals as goal
 
-pub returns-then-quantity-lt0 : goal.returns-then-quantity-lt0
-unfolding bought_of
-returns-then-quantity-lt0 c =
-    let below-zero : lt_z c.args.quantity (pos 0) ≡ true = rw (read c.ranges.quantity) at c.if-quantity-lt0.true in
-    rw below-zero (back _ c.negated.type_inv ∙ c.negated.ensures ∙ ap neg_ℤ (read c.ranges.quantity))
-
-pub returns-else-quantity-lt0 : goal.returns-else-quantity-lt0
-unfolding bought_of
-returns-else-quantity-lt0 c = rw (rw (read c.ranges.quantity) at c.if-quantity-lt0.false)
+pub returns : goal.returns
+returns c =
+    let q = c.args.quantity in
+    let negated : to_z w64 (of_z w64 (pos 0 -ℤ to_z w64 (of_z w64 q))) ≡ neg_ℤ q =
+    rw (read c.ranges.quantity, +ℤ_idl (neg_ℤ q)) (read (fits (neg_ℤ q) (omega (arith, size-neg q)))) in
+    back c.max.result c.max.type_inv ∙ c.max.ensures.value ∙ ap (λ (x : ℤ). int_max x (pos 0)) negated ∙ bought_max q

@@ -1,15 +1,12 @@
 -- Each call is handed what the one before it left (proofs/Parts.antt). Assumes nothing.
-use mathlib.Core.Path.{◌≡◌, ◌∙◌}
-use Prim.Native.Nat.{ℕ, ◌-◌}
-use Rattle.integers.proofs.Machine.{read, back, read_le, fits}
+use mathlib.Core.Path.{◌≡◌}
+use lib.IntN.{ℤ, pos}
+use Rattle.integers.proofs.Machine.{read, read_le, fits}
 use Rattle.rules.specs.Limits.{price_most}
 use Rattle.rules.proofs.Small.{prices_small}
 use Rattle.closing.proofs.Parts.{quantity_asked, money_asked, part_left}
 use native.Mathlib.Omega.{arith}
 use Rattle.closing.proofs.close_part.Goals as goal
-
-count : (n : ℕ) → n - 0 ≡ n
-count n = omega arith
 
 pub money_all-requires : goal.money_all-requires
 money_all-requires c =
@@ -19,15 +16,12 @@ money_all-requires c =
     let f = read_le k.shortfall_price price_most b.shortfall in (
       omega (arith, e, f),
       omega (arith, e, f),
-      money_asked c.requires _ (count _) _ c.copy_all.ensures,
-      (quantity_asked c.requires _ (count _) _ c.copy_all.ensures).1,
+      money_asked c.requires _ c.copy_from_slice.ensures.after,
+      (quantity_asked c.requires _ c.copy_from_slice.ensures.after).1,
     )
 
-pub traded_all-sold-requires : goal.traded_all-sold-requires
-traded_all-sold-requires c = quantity_asked c.requires _ (count _) _ c.copy_all.ensures
-
-pub traded_all-bought-requires : goal.traded_all-bought-requires
-traded_all-bought-requires c = quantity_asked c.requires _ (count _) _ c.copy_all.ensures
+pub sums_of-sums-requires : goal.sums_of-sums-requires
+sums_of-sums-requires c = quantity_asked c.requires _ c.copy_from_slice.ensures.after
 
 pub returns : goal.returns
 returns c =
@@ -35,8 +29,8 @@ returns c =
     let b = prices_small _ _ c.requires.prices in
     let e = read (fits k.excess_price (omega (arith, b.excess))) in
     let f = read (fits k.shortfall_price (omega (arith, b.shortfall))) in
-    part_left c.requires _ (count _) _ c.copy_all.ensures _ _ _ _
+    part_left c.requires _ c.copy_from_slice.ensures.after _ _ _ _
     (rw (e, f) at c.money_all.ensures)
-    (back _ c.traded_all-sold.type_inv ∙ c.traded_all-sold.ensures)
-    (back _ c.traded_all-bought.type_inv ∙ c.traded_all-bought.ensures)
-    c.clear.ensures
+    c.sums_of-sums.ensures.0
+    c.sums_of-sums.ensures.1
+    (c.fill.ensures.after (λ (x : ℤ) (e : x ≡ pos 0). e))

@@ -1,30 +1,33 @@
 -- The zone's part is lent on. Assumes nothing.
 use mathlib.Core.Path.{◌≡◌, sym, ap, ◌∙◌}
-use mathlib.Core.Bool.{Bool}
+use mathlib.Core.Bool.{true, false}
+use Prim.Native.Nat.{ℕ}
+use lib.Dec.{eqb}
+use borrow.Author.Tests.{ne_eqb}
 use Rattle.integers.specs.Ranges.{is_zero}
-use Rattle.integers.proofs.Machine.{back}
+use Rattle.integers.proofs.Machine.{zero_bits}
 use Rattle.rules.proofs.Zones.{part_h, part_l}
 use Rattle.closing.proofs.Parts.{left_h, left_l}
 use borrow.Author.Rules.{rules}
-use Rattle.closing.proofs.close_table.Goals.{After-is_zero}
+use Rattle.closing.proofs.close_table.Goals.{Then-terms-eq0, Else-terms-eq0}
 use Rattle.closing.proofs.close_table.Goals as goal
 
 -- the test of the zone, of which the machine reads the bits
-tested : (c : After-is_zero) {b : Bool} → c.is_zero.result ≡ b → is_zero c.args.terms.zone ≡ b
-tested c e = sym (ap is_zero (back c.args.terms.zone (search rules))) ∙ sym c.is_zero.ensures ∙ e
+h_zone : (c : Then-terms-eq0) → is_zero c.args.terms.zone ≡ true
+h_zone c = sym (zero_bits {x = c.args.terms.zone} (record { sfits = search rules })) ∙ ap (λ (n : ℕ). eqb n 0) c.if-terms-eq0.true
+
+l_zone : (c : Else-terms-eq0) → is_zero c.args.terms.zone ≡ false
+l_zone c = sym (zero_bits {x = c.args.terms.zone} (record { sfits = search rules })) ∙ ne_eqb _ 0 c.if-terms-eq0.false
 
 pub close_part-requires : goal.close_part-requires
-close_part-requires c =
-    rw (part_h _ _ (tested (goal.at.close_part-requires c).After-is_zero c.if-is_zero.true)) at c.requires.lists
+close_part-requires c = rw (part_h _ _ (h_zone (goal.at.close_part-requires c).Then-terms-eq0)) at c.requires.lists
 
-pub close_part-requires-else-is_zero : goal.close_part-requires-else-is_zero
-close_part-requires-else-is_zero c =
-    rw (part_l _ _ (tested (goal.at.close_part-requires-else-is_zero c).After-is_zero c.if-is_zero.false)) at c.requires.lists
+pub close_part-requires-else-terms-eq0 : goal.close_part-requires-else-terms-eq0
+close_part-requires-else-terms-eq0 c = rw (part_l _ _ (l_zone (goal.at.close_part-requires-else-terms-eq0 c).Else-terms-eq0)) at c.requires.lists
 
-pub returns-then-is_zero : goal.returns-then-is_zero
-returns-then-is_zero c =
-    left_h c.requires _ _ _ _ _ _ (tested (goal.at.returns-then-is_zero c).After-is_zero c.if-is_zero.true) c.close_part.ensures
+pub returns-then-terms-eq0 : goal.returns-then-terms-eq0
+returns-then-terms-eq0 c = left_h c.requires _ _ _ _ _ _ (h_zone (goal.at.returns-then-terms-eq0 c).Then-terms-eq0) c.close_part.ensures
 
-pub returns-else-is_zero : goal.returns-else-is_zero
-returns-else-is_zero c =
-    left_l c.requires _ _ _ _ _ _ (tested (goal.at.returns-else-is_zero c).After-is_zero c.if-is_zero.false) c.close_part-else-is_zero.ensures
+pub returns-else-terms-eq0 : goal.returns-else-terms-eq0
+returns-else-terms-eq0 c =
+    left_l c.requires _ _ _ _ _ _ (l_zone (goal.at.returns-else-terms-eq0 c).Else-terms-eq0) c.close_part-else-terms-eq0.ensures

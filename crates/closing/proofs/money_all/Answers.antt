@@ -14,15 +14,13 @@ pub loop-i-preserved : goal.loop-i-preserved
 loop-i-preserved c =
     let l = c.loop-i in
     let qs = c.args.quantity.now in
-    let v = rw (back (get_or qs l.i (pos 0)) (search rules)) at c.money_of.ensures in (
-      omega arith,
-      written_next _ c.args.money.now _ _ l.invariant.1 (length-map qs _ ∙ sym c.requires.2) (pos 0) _ (omega arith)
-          (back _ c.money_of.type_inv ∙ v ∙ sym (get_or-map_at _ qs l.i (pos 0) (pos 0) (omega arith))),
-    )
+    let v = rw (back (get_or qs l.i (pos 0)) (search rules)) at c.money_of.ensures in
+    written_next _ c.args.money.now _ _ l.invariant (length-map qs _ ∙ sym c.requires.2) (pos 0) _ (omega arith)
+    (back _ c.money_of.type_inv ∙ v ∙ sym (get_or-map_at _ qs l.i (pos 0) (pos 0) (omega arith)))
 
 pub returns : goal.returns
 unfolding moneys
 returns c =
     let f = c.ranges in
     rw (read f.excess_price, read f.shortfall_price) at
-    (written_all _ c.args.money.now _ _ c.loop-i.invariant.1 (length-map c.args.quantity.now _ ∙ sym c.requires.2) (omega arith))
+    (written_all _ c.args.money.now _ _ c.loop-i.invariant (length-map c.args.quantity.now _ ∙ sym c.requires.2) (omega arith))

@@ -1,14 +1,9 @@
 -- Each turn writes one user's money. Assumes nothing.
-use Prim.Native.Nat.{◌-◌, ◌≤◌}
 use mathlib.Core.List.{map}
-use lib.ListN.{length}
 use Rattle.integers.proofs.Passes.{Written}
 use Rattle.rules.specs.Market.{money_of}
 use Rattle.closing.proofs.money_all.Given as goal
 
 abbrev pub invariant-loop-i : goal.invariant-loop-i
 invariant-loop-i l =
-    (l.i ≤ length l.quantity) × Written (map (money_of l.excess_price l.shortfall_price) l.quantity) l.initial.money l.money l.i
-
-abbrev pub decreases-loop-i : goal.decreases-loop-i
-decreases-loop-i l = length l.quantity - l.i
+    Written (map (money_of l.excess_price l.shortfall_price) l.quantity) l.initial.money l.money l.i

@@ -1,12 +1,8 @@
--- By the sign. Assumes nothing.
-use Rattle.integers.proofs.Machine.{read}
+-- What is above zero. Assumes nothing.
+use Rattle.integers.proofs.Machine.{read, back}
 use Rattle.closing.specs.Steps.{sold_of}
 use Rattle.closing.proofs.sold_of.Goals as goal
 
-pub returns-then-quantity-gt0 : goal.returns-then-quantity-gt0
+pub returns : goal.returns
 unfolding sold_of
-returns-then-quantity-gt0 c = let f = read c.ranges.quantity in rw (rw f at c.if-quantity-gt0.true) f
-
-pub returns-else-quantity-gt0 : goal.returns-else-quantity-gt0
-unfolding sold_of
-returns-else-quantity-gt0 c = rw (rw (read c.ranges.quantity) at c.if-quantity-gt0.false)
+returns c = rw (back _ c.max.type_inv, c.max.ensures.value, read c.ranges.quantity)

@@ -1,15 +1,17 @@
 -- By the test of the turned position. Assumes nothing.
-use mathlib.Core.Path.{◌∙◌}
+use mathlib.Core.Path.{◌≡◌, refl, ◌∙◌}
+use mathlib.Core.Bool.{Bool, true, false}
+use mir.Val.{bool_byte}
+use Rattle.integers.specs.Lists.{bit}
 use Rattle.integers.proofs.Machine.{read, back}
-use Rattle.sides.proofs.Turning.{mark_turn}
+use Rattle.sides.proofs.Turning.{caused-turn}
 use Rattle.sides.proofs.mark_on.Goals as goal
 
-pub returns-then-turned-gt0 : goal.returns-then-turned-gt0
-returns-then-turned-gt0 c =
-    let is = back _ c.turned.type_inv ∙ rw (read c.ranges.position) at c.turned.ensures in
-    mark_turn c.args.up c.args.position _ (rw is at c.if-turned-gt0.true)
+bit_is : (b : Bool) → bool_byte b ≡ bit b
+bit_is true = refl
+bit_is false = refl
 
-pub returns-else-turned-gt0 : goal.returns-else-turned-gt0
-returns-else-turned-gt0 c =
+pub returns : goal.returns
+returns c =
     let is = back _ c.turned.type_inv ∙ rw (read c.ranges.position) at c.turned.ensures in
-    mark_turn c.args.up c.args.position _ (rw is at c.if-turned-gt0.false)
+    rw (c.from.ensures, is, caused-turn c.args.up c.args.position) (bit_is _)

@@ -1,12 +1,8 @@
 -- The first word holds the first 64 positions, or all of them. Assumes nothing.
-use Prim.Native.Nat.{◌-◌}
 use Rattle.sides.proofs.Words.{marks_are}
-use native.Mathlib.Omega.{arith}
 use Rattle.sides.proofs.marks_of.Goals as goal
 
 pub returns : goal.returns
 returns c =
-    let e = c.least-c.ensures in
-    marks_are c.args.positions.now c.requires.0 c.requires.1 c.least-c.result e.0 e.1 e.2 e.3 c.args.up
-    (c.least-c.result - 0) _ _ (omega arith)
-    c.word_of-first.ensures c.word_of-second.ensures
+    rw (c.from.ensures, c.from-2.ensures)
+    (marks_are c.args.positions.now c.requires.0 c.requires.1 _ c.min-split.ensures c.args.up _ _ c.word_of-first.ensures c.word_of-second.ensures)

@@ -1,12 +1,10 @@
--- The size is the turned position as a natural number. Assumes nothing.
-use mathlib.Core.Path.{ap, ◌∙◌}
+-- The size is the turned position where that is above zero. Assumes nothing.
+use mathlib.Core.Path.{◌∙◌}
 use Rattle.integers.proofs.Machine.{read, back}
-use Rattle.integers.specs.Ranges.{natural}
-use Rattle.sides.proofs.Turning.{natural-turn}
+use Rattle.sides.proofs.Turning.{max_natural, natural-turn}
 use Rattle.sides.proofs.size_on.Goals as goal
 
 pub returns : goal.returns
 returns c =
-    c.natural.ensures
-    ∙ ap natural (back _ c.turned.type_inv ∙ rw (read c.ranges.position) at c.turned.ensures)
-    ∙ natural-turn c.args.up c.args.position
+    let is = back _ c.turned.type_inv ∙ rw (read c.ranges.position) at c.turned.ensures in
+    rw (back _ c.max.type_inv, c.max.ensures.value, is) (max_natural _ ∙ natural-turn c.args.up c.args.position)

@@ -1,5 +1,7 @@
 -- The row and the column are within the table. Assumes nothing.
 use mathlib.Core.Path.{◌≡◌, ◌∙◌, ap}
+use Prim.Native.Nat.{◌*◌, ◌^◌, ◌<◌}
+use native.Mathlib.Omega.{arith}
 use lib.IntN.{pos, ◌-ℤ◌}
 use Rattle.integers.specs.Ranges.{natural}
 use Rattle.integers.proofs.Machine.{read, back, fitting}
@@ -26,4 +28,6 @@ pub returns : goal.returns
 unfolding upper_default
 returns c =
     let d = (goal.at.returns c).After-natural-column in
-    back _ c.signed.type_inv ∙ c.signed.ensures ∙ simp (c.upper_gwh.ensures, row d, column d)
+    let gwh = back c.from.result c.from.type_inv ∙ c.from.ensures in
+    let small : c.upper_gwh.result * 1_000_000 < 2 ^ 63 = omega arith in
+    rw gwh (back (pos (c.upper_gwh.result * 1_000_000)) small ∙ ap (λ n. pos (n * 1_000_000)) (rw (row d, column d) at c.upper_gwh.ensures))

@@ -1,7 +1,0 @@
--- The limits are those of the definition. Assumes nothing.
-use Rattle.rules.specs.Limits.{title_fit}
-use Rattle.ranges.proofs.limits.Title.all_fit.Goals as goal
-
-pub returns : goal.returns
-unfolding title_fit
-returns c = c.all_within.ensures
