@@ -9,18 +9,19 @@ use lib.ListN.{length, drop}
 use borrow.Author.Tests.{eqb-true}
 use Rattle.integers.proofs.Tests.{and_true}
 use Rattle.csv_lines.specs.Lines.{begins, lines}
+use Rattle.allocation_row.specs.declared.FileCause.TheVariants.{Lists, Header}
 use Rattle.allocation_lines.specs.Turns.{refused, body_of}
 use Rattle.allocation_lines.specs.Steps.{Lent}
 use Rattle.allocation_file.specs.File.{header, file_of, all128, outcome}
 
 module _ (s : List ℕ) (a b c d : List ℤ) where
   -- a list of another length
-  pub wrong_length : all128 (length a) (length b) (length c) (length d) ≡ false → outcome s a b c d ≡ refused 12
+  pub wrong_length : all128 (length a) (length b) (length c) (length d) ≡ false → outcome s a b c d ≡ refused Lists
   wrong_length e = rw e
 
   module _ (e : all128 (length a) (length b) (length c) (length d) ≡ true) where
     -- another header
-    pub other_header : begins s header ≡ false → outcome s a b c d ≡ refused 13
+    pub other_header : begins s header ≡ false → outcome s a b c d ≡ refused Header
     unfolding file_of
     other_header f = rw (e, f)
 

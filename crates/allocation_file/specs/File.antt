@@ -1,11 +1,12 @@
 -- The file, and the call that reads it. Assumes nothing.
-use Rattle.std.specs.Prelude.{ℕ, ◌≡◌, Bool, ◌&&◌, cond, List, ◌++◌, map, eqb, ℤ, pos, length, drop}
+use Rattle.std.specs.Prelude.{ℕ, ◌≡◌, Bool, ◌&&◌, cond, List, ◌++◌, map, eqb, ℤ, pos, length, drop, Result, Ok, Err}
 use Rattle.text.specs.Bytes.{bytes}
 use Rattle.csv_lines.specs.Lines.{begins, lines}
 use Rattle.allocation_row.specs.declared.Row.{Row}
+use Rattle.allocation_row.specs.declared.FileCause.{FileCause}
+use Rattle.allocation_row.specs.declared.FileCause.TheVariants.{Lists, Header}
 use Rattle.allocation_lines.specs.Turns.{File, refused, read, body_of}
-use Rattle.allocation_file.specs.declared.FileAnswer.{FileAnswer}
-use Rattle.allocation_file.specs.declared.FileAnswer.TheVariants.{Refused, Read}
+use Rattle.allocation_file.specs.declared.FileRead.{FileRead}
 
 -- ---- the file
 
@@ -19,7 +20,7 @@ lines_of s = lines (drop (length header) s)
 
 -- the whole file: 13, then what its lines say
 unfoldable pub file_of : List ℕ → File
-file_of s = cond (begins s header) (body_of (lines_of s)) (refused 13)
+file_of s = cond (begins s header) (body_of (lines_of s)) (refused Header)
 
 -- ---- the call
 
@@ -29,16 +30,16 @@ all128 a b c d = (eqb a 128 && eqb b 128) && (eqb c 128 && eqb d 128)
 
 -- the outcome of the call: 12 goes before all else
 abbrev pub outcome : List ℕ → List ℤ → List ℤ → List ℤ → List ℤ → File
-outcome s a b c d = cond (all128 (length a) (length b) (length c) (length d)) (file_of s) (refused 12)
+outcome s a b c d = cond (all128 (length a) (length b) (length c) (length d)) (file_of s) (refused Lists)
 
 -- "It answers h, z as the zone's number, and the number of lines", all as signed numbers
-abbrev pub answered : ℕ → ℕ → ℕ → FileAnswer
-answered h z n = Read (record { hour = pos h; zone = pos z; lines = pos n })
+abbrev pub answered : ℕ → ℕ → ℕ → FileRead
+answered h z n = record { hour = pos h; zone = pos z; lines = pos n }
 
--- document 01's number for a refusal, and its three values for a file that is read
-abbrev pub answer_of : File → FileAnswer
-answer_of (refused c) = Refused c
-answer_of (read h z rs) = answered h z (length rs)
+-- document 01's cause of a refusal, and its three values for a file that is read
+abbrev pub answer_of : File → Result FileRead FileCause
+answer_of (refused c) = Err c
+answer_of (read h z rs) = Ok (answered h z (length rs))
 
 -- a list lent, after the call: it "fills the first as many as there are lines and touches no others"; a refusal leaves it as it was
 abbrev pub list_of : (Row → ℤ) → File → List ℤ → List ℤ
@@ -46,7 +47,7 @@ list_of f (refused c) xs = xs
 list_of f (read h z rs) xs = map f rs ++ drop (length rs) xs
 
 -- the call's contract: the answer r to the file s, and the lists a b c d after it
-pub record ReadHour (s : List ℕ) (a b c d : List ℤ) (r : FileAnswer) (a' b' c' d' : List ℤ) : Type 0 where
+pub record ReadHour (s : List ℕ) (a b c d : List ℤ) (r : Result FileRead FileCause) (a' b' c' d' : List ℤ) : Type 0 where
   pub answer : r ≡ answer_of (outcome s a b c d)
   pub entries : a' ≡ list_of (λ w. w.entry) (outcome s a b c d) a
   pub exits : b' ≡ list_of (λ w. w.exit) (outcome s a b c d) b

@@ -1,10 +1,7 @@
--- The lines' answer as the call's. Nobody needs this to believe the call's contract. Assumes nothing.
-use Rattle.allocation_lines.specs.declared.LinesAnswer.{LinesAnswer}
-use Rattle.allocation_lines.specs.declared.LinesAnswer.TheVariants.{Refused as LinesRefused, Read as LinesRead}
+-- What the lines say in the call's signed numbers. Nobody needs this to believe the call's contract. Assumes nothing.
+use Rattle.allocation_lines.specs.declared.LinesRead.{LinesRead}
 use Rattle.allocation_file.specs.File.{answered}
-use Rattle.allocation_file.specs.declared.FileAnswer.{FileAnswer}
-use Rattle.allocation_file.specs.declared.FileAnswer.TheVariants.{Refused}
+use Rattle.allocation_file.specs.declared.FileRead.{FileRead}
 
-abbrev pub answer_to : LinesAnswer → FileAnswer
-answer_to (LinesRefused c) = Refused c
-answer_to (LinesRead r) = answered r.hour r.zone r.lines
+abbrev pub in_signed : LinesRead → FileRead
+in_signed r = answered r.hour r.zone r.lines

@@ -4,26 +4,32 @@
 
 ghost use Rattle.std.specs.Prelude.{◌≡◌};
 ghost use Rattle.allocation_file.specs.File.{all128, ReadHour};
-ghost use Rattle.allocation_file.specs.Steps.{answer_to};
+ghost use Rattle.allocation_file.specs.Steps.{in_signed};
 
-use allocation_lines::{LinesAnswer, read_body};
+use allocation_lines::{LinesRead, read_body};
+use allocation_row::FileCause;
 use csv_lines::begins_with;
-use integers::both;
 
 // What a file that is read says besides its amounts: the hour, the zone's number (0 is H, 1 is L) and the number of
 // lines.
-#[derive(Clone, Copy)]
+#[derive(Clone, Copy, PartialEq, Eq)]
 pub struct FileRead {
     pub hour: i64,
     pub zone: i64,
     pub lines: i64,
 }
 
-// The cause of a refusal, 12 to 17, or what the file says.
-#[derive(Clone, Copy)]
-pub enum FileAnswer {
-    Refused(u64),
-    Read(FileRead),
+// What the lines say, in the caller's signed numbers.
+impl From<LinesRead> for FileRead {
+    ghost from_gives = { λ lines file. file ≡ in_signed lines };
+
+    fn from(lines: LinesRead) -> FileRead {
+        FileRead {
+            hour: i64::from(lines.hour),
+            zone: i64::from(lines.zone),
+            lines: i64::from(lines.lines),
+        }
+    }
 }
 
 // The bytes that a file opens with.
@@ -33,42 +39,29 @@ pub const HEADER: [u8; 25] = *b"h,z,g,EEA,XEA,NCTTN,IPT\r\n";
 fn all_128(a: usize, b: usize, c: usize, d: usize) -> bool
     ensures { result ≡ all128 a b c d }
 {
-    both(both(a == 128, b == 128), both(c == 128, d == 128))
-}
-
-// The lines' answer in the caller's signed numbers.
-fn answer(lines: LinesAnswer) -> FileAnswer
-    ensures { result ≡ answer_to lines }
-{
-    match lines {
-        LinesAnswer::Refused(cause) => FileAnswer::Refused(cause),
-        LinesAnswer::Read(read) => FileAnswer::Read(FileRead {
-            hour: integers::signed(read.hour as u64),
-            zone: integers::signed(read.zone as u64),
-            lines: integers::signed(read.lines as u64),
-        }),
-    }
+    (a == 128 && b == 128) && (c == 128 && d == 128)
 }
 
 // Reads the file into the four lists: as many places are filled as the file has lines, and the others stay as they
-// were. A refusal leaves all as they were.
+// were. A refusal leaves all as they were. (The four lists are parameters: `read_lines` says why.)
 pub fn read_hour_file(
     file: &[u8],
     entries: &mut [i64],
     exits: &mut [i64],
     titles: &mut [i64],
     poolings: &mut [i64],
-) -> FileAnswer
+) -> Result<FileRead, FileCause>
     ensures { ReadHour file.now
         entries.old exits.old titles.old poolings.old
         result
         entries.new exits.new titles.new poolings.new }
 {
     if !all_128(entries.len(), exits.len(), titles.len(), poolings.len()) {
-        return FileAnswer::Refused(12);
+        return Err(FileCause::Lists);
     }
     if !begins_with(file, &HEADER) {
-        return FileAnswer::Refused(13);
+        return Err(FileCause::Header);
     }
-    answer(read_body(file, HEADER.len(), entries, exits, titles, poolings))
+    let lines = read_body(file, HEADER.len(), entries, exits, titles, poolings)?;
+    Ok(FileRead::from(lines))
 }

@@ -1,7 +1,8 @@
 -- Cause 12, cause 13, or what the lines after the header say. Assumes nothing.
 use mathlib.Core.Path.{sym, ◌∙◌}
+use Rattle.std.proofs.lemmas.Result.{err_from_is_err_and}
 use Rattle.allocation_file.proofs.Header.{other_header, right_header}
-use Rattle.allocation_file.proofs.Calls.{refusal, called}
+use Rattle.allocation_file.proofs.Calls.{refusal, lines_refused, lines_read}
 use Rattle.allocation_file.proofs.read_hour_file.Goals as goal
 
 pub returns-then-not-begins_with : goal.returns-then-not-begins_with
@@ -12,12 +13,23 @@ returns-then-not-begins_with c =
     (sym c.all_128.ensures ∙ c.if-not-all_128.false)
     (sym c.begins_with.ensures ∙ c.if-not-begins_with.true))
 
-pub returns : goal.returns
-returns c =
+pub returns-in_err-lines : goal.returns-in_err-lines
+returns-in_err-lines c =
     let a = c.args in
-    rw c.answer.ensures
-    (called a.file.now _ c.read_body.result
+    let p = err_from_is_err_and c.from_residual.result c.from_residual.ensures.1 in
+    rw (p.1, p.2)
+    (lines_refused a.file.now _ _
     (right_header a.file.now a.entries.now a.exits.now a.titles.now a.poolings.now
     (sym c.all_128.ensures ∙ c.if-not-all_128.false)
     (sym c.begins_with.ensures ∙ c.if-not-begins_with.false))
-    c.read_body.ensures)
+    (rw c.in_err-lines.was at c.read_body.ensures))
+
+pub returns : goal.returns
+returns c =
+    let a = c.args in
+    rw c.from.ensures
+    (lines_read a.file.now _ c.in_ok-lines.lines
+    (right_header a.file.now a.entries.now a.exits.now a.titles.now a.poolings.now
+    (sym c.all_128.ensures ∙ c.if-not-all_128.false)
+    (sym c.begins_with.ensures ∙ c.if-not-begins_with.false))
+    (rw c.in_ok-lines.was at c.read_body.ensures))
