@@ -121,9 +121,6 @@ pub zeros_next : (xs : List ℤ) (i all : ℕ) → i < length xs → SFits w64 (
 zeros_next xs i all h f e =
     or_zero all (of_z w64 (get_or xs i (pos 0))) ∙ ap₂ (λ (a b : Bool). a && b) e (zero_bits f) ∙ sym (every-step is_zero (pos 0) xs i h)
 
--- a part to its end, and from its start
+-- a part to its end
 pub to_end : (xs : List ℤ) (n : ℕ) → take (length xs - n) (drop n xs) ≡ drop n xs
 to_end xs n = take_all (length xs - n) (drop n xs) (simp length-drop (omega arith))
-
-pub from_start : (n : ℕ) → n - 0 ≡ n
-from_start n = omega arith
