@@ -1,64 +1,60 @@
 -- The causes in turn. Assumes nothing.
 use mathlib.Core.Path.{◌≡◌, sym, ap, ◌∙◌}
 use mathlib.Core.Bool.{Bool, true}
-use Rattle.integers.specs.Ranges.{is_zero}
-use Rattle.integers.specs.Lists.{sum_ℤ, every}
-use Rattle.integers.proofs.Machine.{back}
-use Rattle.rules.specs.Limits.{position_fit}
-use Rattle.rules.specs.Refusals.{unless, ◌then◌}
-use Rattle.positions.specs.Before.{all_fit, befores, Amounts}
-use Rattle.positions.proofs.Before.{few}
-use Rattle.amounts.specs.Amounts.{amounts_cause}
 use native.Mathlib.Omega.{arith}
-use Rattle.amounts.proofs.amounts_cause.Goals.{After-sum_of-pooled, After-is_zero, After-befores_fit}
+use lib.Dec.{eqb}
+use mir.Syntax.{w64}
+use mir.Val.{of_z}
+use Rattle.std.specs.Prelude.{Err}
+use Rattle.std.proofs.lemmas.Result.{err_from_is_err_and}
+use Rattle.integers.specs.Ranges.{is_zero}
+use Rattle.integers.specs.Lists.{sum_ℤ}
+use Rattle.integers.proofs.Machine.{zero_bits}
+use Rattle.rules.specs.declared.Cause.TheVariants as cause
+use Rattle.rules.specs.Refusals.{unless}
+use Rattle.rules.proofs.Refusing.{unless_none}
+use Rattle.positions.specs.Before.{all_fit}
+use Rattle.positions.proofs.Before.{amounts_small}
+use Rattle.amounts.specs.Amounts.{amounts_cause}
+use Rattle.amounts.proofs.amounts_cause.Goals.{In_ok-require, After-require-2}
 use Rattle.amounts.proofs.amounts_cause.Goals as goal
 
 -- no amount is out of range
-in_range : (c : After-sum_of-pooled) → let a = c.args in all_fit a.entry.now a.exit.now a.title.now a.pooling.now ≡ true
-in_range c = sym c.amounts_fit.ensures ∙ c.if-not-amounts_fit.false
+in_range : (c : In_ok-require) → all_fit c.args.amounts.now ≡ true
+in_range c = sym c.amounts_fit.ensures ∙ unless_none _ _ (sym c.require.ensures ∙ c.in_ok-require.was)
 
 -- the test of the sum
-pooled : (c : After-is_zero) → c.is_zero.result ≡ is_zero (sum_ℤ c.args.pooling.now)
-pooled c = c.is_zero.ensures ∙ ap is_zero (back _ c.sum_of-pooled.type_inv ∙ c.sum_of-pooled.ensures)
-
--- the test of the positions before
-standing : (c : After-befores_fit) {b : Bool} → c.befores_fit.result ≡ b
-    → let a = c.args in
-    every position_fit (befores a.part.now a.entry.now a.exit.now a.title.now a.pooling.now) ≡ b
-standing c e = sym c.befores_fit.ensures ∙ e
-
-pub returns-then-not-amounts_fit : goal.returns-then-not-amounts_fit
-unfolding amounts_cause unless ◌then◌
-returns-then-not-amounts_fit c = rw (sym c.amounts_fit.ensures ∙ c.if-not-amounts_fit.true)
+pooled : (c : After-require-2) → c.require-2.result ≡ unless (is_zero (sum_ℤ c.args.amounts.now.poolings.now)) cause.Pooling
+pooled c =
+    let test : eqb (of_z w64 c.sum_of-pooled.result) 0 ≡ is_zero (sum_ℤ c.args.amounts.now.poolings.now) =
+    zero_bits {x = c.sum_of-pooled.result} (record { sfits = c.sum_of-pooled.type_inv }) ∙ ap is_zero c.sum_of-pooled.ensures in
+    c.require-2.ensures ∙ ap (λ (b : Bool). unless b cause.Pooling) test
 
 pub sum_of-pooled-requires : goal.sum_of-pooled-requires
-sum_of-pooled-requires c =
-    let a : let a = c.args in Amounts a.part.now a.entry.now a.exit.now a.title.now a.pooling.now =
-    record { lent = c.requires; fit = sym c.amounts_fit.ensures ∙ c.if-not-amounts_fit.false } in
-    (omega (arith, a.lent.poolings, a.lent.few), (few a).pooling)
+sum_of-pooled-requires c = (
+  omega (arith, c.requires.lists.poolings, c.requires.few),
+  (amounts_small c.args.amounts.now (in_range (goal.at.sum_of-pooled-requires c).In_ok-require)).pooling,
+)
 
-pub returns-then-not-is_zero : goal.returns-then-not-is_zero
-unfolding amounts_cause unless ◌then◌
-returns-then-not-is_zero c =
-    let d = goal.at.returns-then-not-is_zero c in
-    rw (in_range d.After-sum_of-pooled, sym (pooled d.After-is_zero) ∙ c.if-not-is_zero.true)
+pub befores_fit-requires : goal.befores_fit-requires
+befores_fit-requires c = record { lent = c.requires; fit = in_range (goal.at.befores_fit-requires c).In_ok-require }
 
-pub returns-then-not-befores_fit : goal.returns-then-not-befores_fit
-unfolding amounts_cause unless ◌then◌
-returns-then-not-befores_fit c =
-    let d = goal.at.returns-then-not-befores_fit c in
-    rw (
-      in_range d.After-sum_of-pooled,
-      sym (pooled d.After-is_zero) ∙ c.if-not-is_zero.false,
-      standing d.After-befores_fit c.if-not-befores_fit.true,
-    )
+pub returns-in_err-require : goal.returns-in_err-require
+unfolding amounts_cause
+returns-in_err-require c =
+    let p = err_from_is_err_and c.from_residual.result c.from_residual.ensures.1 in
+    rw (← c.amounts_fit.ensures, ← c.require.ensures, c.in_err-require.was) (p.1 ∙ ap Err p.2)
+
+pub returns-in_err-require-2 : goal.returns-in_err-require-2
+unfolding amounts_cause
+returns-in_err-require-2 c =
+    let d = goal.at.returns-in_err-require-2 c in
+    let p = err_from_is_err_and c.from_residual-in_err-require-2.result c.from_residual-in_err-require-2.ensures.1 in
+    rw (in_range d.In_ok-require, ← pooled d.After-require-2, c.in_err-require-2.was) (p.1 ∙ ap Err p.2)
 
 pub returns : goal.returns
-unfolding amounts_cause unless ◌then◌
+unfolding amounts_cause
 returns c =
     let d = goal.at.returns c in
-    rw (
-      in_range d.After-sum_of-pooled,
-      sym (pooled d.After-is_zero) ∙ c.if-not-is_zero.false,
-      standing d.After-befores_fit c.if-not-befores_fit.false,
-    )
+    let zero = unless_none _ _ (sym (pooled d.After-require-2) ∙ c.in_ok-require-2.was) in
+    rw (in_range d.In_ok-require, zero, ← c.befores_fit.ensures) c.require-3.ensures
