@@ -5,22 +5,22 @@ use Prim.Native.Nat.{ℕ}
 use native.Mathlib.Omega.{arith}
 use lib.IntN.{pos}
 use lib.ListN.{length, length-map}
+use Rattle.std.specs.Prelude.{Ok}
 use Rattle.allocation_row.specs.Rows.{row_of}
-use Rattle.allocation_row.specs.declared.Line.TheVariants.{Good}
+use Rattle.allocation_row.specs.declared.FileCause.TheVariants.{Lists}
 use Rattle.allocation_lines.specs.Turns.{File, refused, read}
 use Rattle.allocation_file.specs.File.{lines_of, file_of, all128, outcome, answer_of}
 use Rattle.file_guarantees.specs.Guarantees.{Obeys, ReadIfObeyed, FirstFaultDecides, Accepted, AcceptedObeys, CauseGiven, SmallNumbers, TwoForms, PointsInAmounts}
 use Rattle.allocation_file.specs.declared.FileRead.{FileRead}
-use Rattle.allocation_file.specs.declared.FileAnswer.TheVariants.{Read}
-use Rattle.file_guarantees.proofs.Rows.{either, nine}
+use Rattle.file_guarantees.proofs.Rows.{made_of, nine}
 use Rattle.file_guarantees.proofs.Forms.{means, means_read, no_points}
 use Rattle.file_guarantees.proofs.Obeyed.{IfRead, standing_turned, opened, obeyed, obeys_read}
-use Rattle.file_guarantees.proofs.Faults.{body_fault, IfRefused, file_cause}
+use Rattle.file_guarantees.proofs.Faults.{body_fault, number_within}
 
 -- ---- what is read, and what is refused
 pub read_if_obeyed : ReadIfObeyed
 read_if_obeyed s a b c d long h z rows =
-    let q : outcome s a b c d ≡ file_of s = ap (λ (b : Bool). cond b (file_of s) (refused 12)) long in
+    let q : outcome s a b c d ≡ file_of s = ap (λ (b : Bool). cond b (file_of s) (refused Lists)) long in
     (λ e. rw (sym q ∙ e) at (obeyed s), λ o. q ∙ obeys_read s h z rows o)
 
 pub first_fault_decides : FirstFaultDecides
@@ -31,10 +31,10 @@ first_fault_decides s h z n before l after rows o e t w =
 pub accepted_obeys : AcceptedObeys
 accepted_obeys s a b c d f = lists (all128 (length a) (length b) (length c) (length d))
   where
-    file : (w : File) → IfRead (Obeys s) w → answer_of w ≡ Read f → Accepted s f
+    file : (w : File) → IfRead (Obeys s) w → answer_of w ≡ Ok f → Accepted s f
     file (refused n) o e = let q : ◌≡◌ {A = ℕ} 0 1 = cc in absurd (omega arith)
     file (read h z rows) o e =
-        let n : length (lines_of s) ≡ length rows = sym (length-map (lines_of s) row_of) ∙ ap length o.standing.each ∙ length-map rows Good in
+        let n : length (lines_of s) ≡ length rows = sym (length-map (lines_of s) row_of) ∙ ap length o.standing.each ∙ length-map rows Ok in
         let q : ◌≡◌ {A = FileRead} f (record { hour = pos h; zone = pos z; lines = pos (length rows) }) = cc in
         record {
           h = h;
@@ -48,23 +48,19 @@ accepted_obeys s a b c d f = lists (all128 (length a) (length b) (length c) (len
           few = omega (arith, o.standing.few);
         }
 
-    lists : (b : Bool) → answer_of (cond b (file_of s) (refused 12)) ≡ Read f → Accepted s f
+    lists : (b : Bool) → answer_of (cond b (file_of s) (refused Lists)) ≡ Ok f → Accepted s f
     lists true e = file (file_of s) (obeyed s) e
     lists false e = let q : ◌≡◌ {A = ℕ} 0 1 = cc in absurd (omega arith)
 
 pub cause_given : CauseGiven
-cause_given s a b c d n e = rw e at (go (all128 (length a) (length b) (length c) (length d)))
-  where
-    go : (b : Bool) → IfRefused (cond b (file_of s) (refused 12))
-    go true = file_cause s
-    go false = (omega arith, omega arith)
+cause_given s a b c d n e = number_within n
 
 -- ---- one line
 pub small_numbers : SmallNumbers
-small_numbers l r e = nine l r (rw e at (either l))
+small_numbers l r e = nine l r (rw e at (made_of l))
 
 pub two_forms : TwoForms
 two_forms f x = (means f x, means_read)
 
 pub points_in_amounts : PointsInAmounts
-points_in_amounts l r e = no_points l r (rw e at (either l))
+points_in_amounts l r e = no_points l r (rw e at (made_of l))

@@ -6,14 +6,15 @@ use Prim.Native.Nat.{ℕ, suc, ◌+◌, ◌-◌, ◌≤◌}
 use native.Mathlib.Nat.{add-zero}
 use native.Mathlib.Omega.{arith}
 use lib.ListN.{length, take, replicate}
+use Rattle.std.specs.Prelude.{Result, Ok, Err}
 use Rattle.integers.specs.Lists.{tabulate}
 use Rattle.integers.proofs.Counts.{tabulate_ext}
 use Rattle.csv_lines.specs.Lines.{begins}
 use Rattle.csv_lines.proofs.Begins.{begins-take, take_begins}
 use Rattle.allocation_row.specs.Rows.{row_of, follows}
 use Rattle.allocation_row.specs.declared.Row.{Row}
-use Rattle.allocation_row.specs.declared.Line.{Line}
-use Rattle.allocation_row.specs.declared.Line.TheVariants.{Good, Faulty}
+use Rattle.allocation_row.specs.declared.FileCause.{FileCause}
+use Rattle.allocation_row.specs.declared.FileCause.TheVariants.{Header, Turn}
 use Rattle.allocation_row.proofs.Follows.{Follows, follows_means, means_follows}
 use Rattle.allocation_lines.specs.Turns.{File, refused, read, with_row, turn, in_turn, under_first, body_of}
 use Rattle.allocation_file.specs.File.{header, lines_of, file_of}
@@ -21,7 +22,7 @@ use Rattle.file_guarantees.specs.Guarantees.{Standing, Obeys}
 
 -- ---- lines that stand in their turn, from place k on
 pub record Turned (h z : ℕ) (ls : List (List ℕ)) (k : ℕ) (rows : List Row) : Type 0 where
-  pub each : map row_of ls ≡ map Good rows
+  pub each : map row_of ls ≡ map Ok rows
   pub hours : map (λ r. r.hour) rows ≡ replicate (length rows) h
   pub zones : map (λ r. r.zone) rows ≡ replicate (length rows) z
   pub places : map (λ r. r.place) rows ≡ tabulate (λ i. k + i) (length rows)
@@ -46,7 +47,7 @@ module _ (ls : List (List ℕ)) (h z : ℕ) (rows : List Row) where
 
 -- the first line, and those after it
 pub record First (h z : ℕ) (l : List ℕ) (ls : List (List ℕ)) (k : ℕ) (r : Row) (rows : List Row) : Type 0 where
-  pub is : row_of l ≡ Good r
+  pub is : row_of l ≡ Ok r
   pub follows : Follows h z k r
   pub rest : Turned h z ls (k + 1) rows
 
@@ -106,7 +107,7 @@ record Turns (h z : ℕ) (ls : List (List ℕ)) (k : ℕ) (h' z' : ℕ) (rows : 
   pub zone : z' ≡ z
   pub are : Turned h z ls k rows
 
-module _ (h z : ℕ) (l : List ℕ) (ls : List (List ℕ)) (k : ℕ) (r : Row) (e : row_of l ≡ Good r) where
+module _ (h z : ℕ) (l : List ℕ) (ls : List (List ℕ)) (k : ℕ) (r : Row) (e : row_of l ≡ Ok r) where
   -- one row more is read
   with_row_lem : (f : File) → Follows h z k r → IfRead (Turns h z ls (k + 1)) f → IfRead (Turns h z (l ∷ ls) k) (with_row r f)
   with_row_lem (refused c) w t = tt
@@ -116,7 +117,7 @@ module _ (h z : ℕ) (l : List ℕ) (ls : List (List ℕ)) (k : ℕ) (r : Row) (
 
   -- if it follows
   if_follows : (b : Bool) → follows h z k r ≡ b → IfRead (Turns h z ls (k + 1)) (in_turn h z ls (k + 1))
-      → IfRead (Turns h z (l ∷ ls) k) (cond b (with_row r (in_turn h z ls (k + 1))) (refused 16))
+      → IfRead (Turns h z (l ∷ ls) k) (cond b (with_row r (in_turn h z ls (k + 1))) (refused Turn))
   if_follows true f t = with_row_lem (in_turn h z ls (k + 1)) (follows_means h z k r f) t
   if_follows false f t = tt
 
@@ -126,13 +127,13 @@ unfolding tabulate
 turns h z [] k = record { hour = refl; zone = refl; are = record { each = refl; hours = refl; zones = refl; places = refl; few = omega arith } }
 turns h z (l ∷ ls) k = go (row_of l) refl (turns h z ls (k + 1))
   where
-    go : (w : Line) → row_of l ≡ w → IfRead (Turns h z ls (k + 1)) (in_turn h z ls (k + 1))
+    go : (w : Result Row FileCause) → row_of l ≡ w → IfRead (Turns h z ls (k + 1)) (in_turn h z ls (k + 1))
         → IfRead (Turns h z (l ∷ ls) k) (turn w h z k (in_turn h z ls))
-    go (Faulty c) e t = tt
-    go (Good r) e t = if_follows h z l ls k r e (follows h z k r) refl t
+    go (Err c) e t = tt
+    go (Ok r) e t = if_follows h z l ls k r e (follows h z k r) refl t
 
 -- one line that stands in its turn
-pub turn_first : (h z : ℕ) (l : List ℕ) (ls : List (List ℕ)) (k : ℕ) (r : Row) → row_of l ≡ Good r → Follows h z k r
+pub turn_first : (h z : ℕ) (l : List ℕ) (ls : List (List ℕ)) (k : ℕ) (r : Row) → row_of l ≡ Ok r → Follows h z k r
     → in_turn h z (l ∷ ls) k ≡ with_row r (in_turn h z ls (k + 1))
 turn_first h z l ls k r e w = rw (e, means_follows h z k r w)
 
@@ -146,9 +147,9 @@ in_turn_lem h z (l ∷ ls) (r ∷ rows) k t =
     turn_first h z l ls k r f.is f.follows ∙ rw (in_turn_lem h z ls rows (k + 1) f.rest)
 
 -- ---- the lines after the header: the first gives the hour and the zone
-pub body_turns : (h z : ℕ) (l : List ℕ) (ls : List (List ℕ)) (r : Row) → row_of l ≡ Good r → r.hour ≡ h → r.zone ≡ z
+pub body_turns : (h z : ℕ) (l : List ℕ) (ls : List (List ℕ)) (r : Row) → row_of l ≡ Ok r → r.hour ≡ h → r.zone ≡ z
     → body_of (l ∷ ls) ≡ in_turn h z (l ∷ ls) 0
-body_turns h z l ls r e p q = ap (λ (w : Line). under_first w (l ∷ ls)) e ∙ under r.hour r.zone p q
+body_turns h z l ls r e p q = ap (λ (w : Result Row FileCause). under_first w (l ∷ ls)) e ∙ under r.hour r.zone p q
   where
     under : (x y : ℕ) → x ≡ h → y ≡ z → in_turn x y (l ∷ ls) 0 ≡ in_turn h z (l ∷ ls) 0
     under x y p q = ap₂ (λ (x y : ℕ). in_turn x y (l ∷ ls) 0) p q
@@ -168,9 +169,9 @@ body (l ∷ ls) = go (row_of l) refl
     some h z (read h' z' []) t = absurd (no_row h z 0 l ls t.are)
     some h z (read h' z' (r ∷ rows)) t = record { some = omega arith; are = rw (t.hour, t.zone) t.are }
 
-    go : (w : Line) → row_of l ≡ w → IfRead (Body (l ∷ ls)) (under_first w (l ∷ ls))
-    go (Faulty c) e = tt
-    go (Good r) e = some r.hour r.zone (in_turn r.hour r.zone (l ∷ ls) 0) (turns r.hour r.zone (l ∷ ls) 0)
+    go : (w : Result Row FileCause) → row_of l ≡ w → IfRead (Body (l ∷ ls)) (under_first w (l ∷ ls))
+    go (Err c) e = tt
+    go (Ok r) e = some r.hour r.zone (in_turn r.hour r.zone (l ∷ ls) 0) (turns r.hour r.zone (l ∷ ls) 0)
 
 -- and the converse
 in_body : (ls : List (List ℕ)) (h z : ℕ) (rows : List Row) → Body ls h z rows → body_of ls ≡ read h z rows
@@ -199,7 +200,7 @@ obeyed s = go (begins s header) refl
       standing = turned_standing (lines_of s) h z rows b.are;
     }
 
-    go : (b : Bool) → begins s header ≡ b → IfRead (Obeys s) (cond b (body_of (lines_of s)) (refused 13))
+    go : (b : Bool) → begins s header ≡ b → IfRead (Obeys s) (cond b (body_of (lines_of s)) (refused Header))
     go true e = whole (body_of (lines_of s)) e (body (lines_of s))
     go false e = tt
 
