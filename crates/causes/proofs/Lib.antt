@@ -1,2 +1,2 @@
--- Why the stages are the causes of the rules, and why each stage may count on those before it. Assumes nothing.
-mod Stages
+-- What the tests of the lengths leave for those that come after. Assumes nothing.
+pub mod Lengths

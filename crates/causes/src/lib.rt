@@ -1,181 +1,143 @@
-// The causes for turning a call away: for each call the first that applies, and 0 for none. Every input is accepted, so each test stands
+// The causes for turning a call away: for each call the first that applies, in the order of the papers. Every input is accepted, so each test stands
 // behind those that it counts on: the record before the hours, the lengths before the places, the ranges before the sums.
 
 #![tactic(auto)]
 
-ghost use Rattle.std.specs.Prelude.{◌≡◌, true};
+ghost use Rattle.std.specs.Prelude.{◌≡◌};
 ghost use Rattle.rules.specs.Hours.{hour_given, closing_given};
-ghost use Rattle.rules.specs.Causes.{day_fit, open_cause, thresholds_cause, hour_cause, closing_cause};
-ghost use Rattle.places.specs.Live.{Tabled};
-ghost use Rattle.causes.specs.Steps.{form_cause, table_cause, hour_form, hour_rest, closing_form, RestAsks};
+ghost use Rattle.rules.specs.Causes.{zone_open, open_cause, thresholds_cause, hour_cause, closing_cause};
+ghost use Rattle.causes.specs.Steps.{filled_long, lent_long, hour_lists_long, closing_lists_long};
 
-use rules::{ClosingTerms, Day, HourTerms};
-
-mod checks;
+use rules::{Amounts, Cause, ClosingTerms, Day, HourTerms, require};
 
 // ---- opening and default thresholds
 
-pub fn open_cause(users: i64, length: i64, table: &[i64]) -> u64
+#[tactic(auto, unfolding(rules::specs::Causes::open_cause, rules::specs::Causes::table_long))]
+pub fn open_cause(users: i64, length: i64, table: &[i64]) -> Result<(), Cause>
     ensures { result ≡ open_cause users length table.now }
 {
-    let few = ranges::users_fit(users);
-    let lasts = ranges::length_fit(length);
-    let long = integers::same(table.len(), 256);
-    checks::first(
-        checks::refusal(few, 1),
-        checks::first(checks::refusal(lasts, 21), checks::refusal(long, 3)),
-    )
+    require(ranges::users_fit(users), Cause::Users)?;
+    require(ranges::length_fit(length), Cause::DayLength)?;
+    require(table.len() == 256, Cause::Lengths)
 }
 
-pub fn thresholds_cause(month: i64, zone: i64) -> u64
+#[tactic(auto, unfolding(rules::specs::Causes::thresholds_cause))]
+pub fn thresholds_cause(month: i64, zone: i64) -> Result<(), Cause>
     ensures { result ≡ thresholds_cause month zone }
 {
-    checks::first(
-        checks::refusal(ranges::zone_fit(zone), 4),
-        checks::refusal(ranges::month_fit(month), 8),
-    )
+    require(ranges::zone_fit(zone), Cause::Zone)?;
+    require(ranges::month_fit(month), Cause::Terms)
 }
 
 // ---- what an hour and a closing have in common
 
-// Causes 3 to 6, of which the lengths and the hour are tested by the call.
-fn form_cause(day: Day, zone: i64, long: bool, timely: bool) -> u64
-    ensures { result ≡ form_cause day zone long timely }
+// Cause 5.
+#[tactic(auto, unfolding(rules::specs::Causes::zone_open))]
+fn zone_open(zone: i64, day: Day) -> bool
+    ensures { result ≡ zone_open zone day }
 {
-    let open = !day_record::is_closed(zone, day);
-    checks::first(
-        checks::refusal(long, 3),
-        checks::first(
-            checks::refusal(ranges::zone_fit(zone), 4),
-            checks::first(checks::refusal(open, 5), checks::refusal(timely, 6)),
-        ),
-    )
-}
-
-// Causes 7 and 8, of which thresholds and prices are tested by the call.
-fn table_cause(day: Day, table: &[i64], fit: bool) -> u64
-    requires { Tabled day table.now }
-    ensures { result ≡ table_cause day table.now fit }
-{
-    checks::first(
-        checks::refusal(places::table_fit(day, table), 7),
-        checks::refusal(fit, 8),
-    )
+    !day_record::is_closed(zone, day)
 }
 
 // ---- an hour
 
-// Causes 3 to 6: lengths, zone and hour.
-fn hour_form(
-    day: Day,
-    table: &[i64],
-    terms: HourTerms,
-    entry: &[i64],
-    exit: &[i64],
-    title: &[i64],
-    pooling: &[i64],
+// Cause 3 in three functions, since the search for a proof of one chain of eight tests gives up: first the lists that an hour fills, and its scratch.
+fn filled_long(users: usize, quantity: &[i64], money: &[i64], scratch: &[u64]) -> bool
+    ensures { result ≡ filled_long users quantity.now money.now scratch.now }
+{
+    quantity.len() == users && money.len() == users && scratch.len() == users
+}
+
+// All that is lent to an hour besides the table.
+fn lent_long(
+    users: usize,
+    amounts: &Amounts,
     quantity: &[i64],
     money: &[i64],
     scratch: &[u64],
-) -> u64
-    requires { day_fit day ≡ true }
-    ensures { result ≡ hour_form day table.now
-        (hour_given terms
-        entry.now exit.now title.now pooling.now
-        quantity.now money.now scratch.now) }
+) -> bool
+    ensures { result ≡ lent_long users amounts.now quantity.now money.now scratch.now }
 {
-    let users = integers::natural(day.users);
-    let lists = checks::lists_long(users, entry, exit, title, pooling, quantity, money, scratch);
-    let long = integers::both(integers::same(table.len(), 256), lists);
-    form_cause(day, terms.zone, long, day_record::hour_next(day, terms))
+    amounts.entries.len() == users
+        && amounts.exits.len() == users
+        && amounts.titles.len() == users
+        && amounts.poolings.len() == users
+        && filled_long(users, quantity, money, scratch)
 }
 
-// Causes 7 to 11: table, thresholds, prices and amounts.
-fn hour_rest(
+// All the lengths of an hour.
+#[tactic(auto, unfolding(rules::specs::Causes::table_long, rules::specs::Causes::list_long, rules::specs::Causes::scratch_long, rules::specs::Days::users))]
+fn hour_lists_long(
     day: Day,
     table: &[i64],
-    terms: HourTerms,
-    entry: &[i64],
-    exit: &[i64],
-    title: &[i64],
-    pooling: &[i64],
-) -> u64
-    requires { RestAsks day table.now terms entry.now exit.now title.now pooling.now }
-    ensures { result ≡ hour_rest day table.now terms
-        entry.now exit.now title.now pooling.now }
+    amounts: &Amounts,
+    quantity: &[i64],
+    money: &[i64],
+    scratch: &[u64],
+) -> bool
+    ensures { result ≡ hour_lists_long day table.now amounts.now
+        quantity.now money.now scratch.now }
 {
-    let standing = table_cause(day, table, ranges::terms_fit(terms));
-    if standing != 0 {
-        return standing;
-    }
-    amounts::zone_amounts_cause(terms.zone, table, entry, exit, title, pooling)
+    let users = integers::natural(day.users);
+    table.len() == 256 && lent_long(users, amounts, quantity, money, scratch)
 }
 
+#[tactic(auto, using(crate::proofs::Lengths::hour_tabled), unfolding(rules::specs::Causes::hour_cause, rules::specs::Causes::hour_long))]
 pub fn hour_cause(
     day: Day,
     table: &[i64],
     terms: HourTerms,
-    entry: &[i64],
-    exit: &[i64],
-    title: &[i64],
-    pooling: &[i64],
+    amounts: &Amounts,
     quantity: &[i64],
     money: &[i64],
     scratch: &[u64],
-) -> u64
+) -> Result<(), Cause>
     ensures { result ≡ hour_cause day table.now
-        (hour_given terms
-        entry.now exit.now title.now pooling.now
+        (hour_given terms amounts.now
         quantity.now money.now scratch.now) }
 {
-    if !day_record::day_fit(day) {
-        return 2;
-    }
-    let form = hour_form(
-        day, table, terms, entry, exit, title, pooling, quantity, money, scratch,
-    );
-    if form != 0 {
-        return form;
-    }
-    hour_rest(day, table, terms, entry, exit, title, pooling)
+    require(day_record::day_fit(day), Cause::Record)?;
+    let long = hour_lists_long(day, table, amounts, quantity, money, scratch);
+    require(long, Cause::Lengths)?;
+    require(ranges::zone_fit(terms.zone), Cause::Zone)?;
+    require(zone_open(terms.zone, day), Cause::Closed)?;
+    require(day_record::hour_next(day, terms), Cause::Hour)?;
+    require(places::table_fit(day, table), Cause::Table)?;
+    require(ranges::terms_fit(terms), Cause::Terms)?;
+    amounts::zone_amounts_cause(terms.zone, table, amounts)
 }
 
 // ---- a closing
 
-// Causes 3 to 6: lengths, zone and hours done.
-fn closing_form(
-    day: Day,
-    table: &[i64],
-    terms: ClosingTerms,
-    quantity: &[i64],
-    money: &[i64],
-) -> u64
-    ensures { result ≡ closing_form day table.now
-        (closing_given terms quantity.now money.now) }
+// All the lengths of a closing.
+#[tactic(auto, unfolding(rules::specs::Causes::table_long, rules::specs::Causes::list_long, rules::specs::Days::users))]
+fn closing_lists_long(day: Day, table: &[i64], quantity: &[i64], money: &[i64]) -> bool
+    ensures { result ≡ closing_lists_long day table.now quantity.now money.now }
 {
     let users = integers::natural(day.users);
-    let filled = checks::filled_long(users, quantity, money);
-    let long = integers::both(integers::same(table.len(), 256), filled);
-    form_cause(day, terms.zone, long, day_record::all_done(day, terms))
+    table.len() == 256 && quantity.len() == users && money.len() == users
 }
 
+#[tactic(auto, using(crate::proofs::Lengths::closing_tabled), unfolding(rules::specs::Causes::closing_cause, rules::specs::Causes::closing_long))]
 pub fn closing_cause(
     day: Day,
     table: &[i64],
     terms: ClosingTerms,
     quantity: &[i64],
     money: &[i64],
-) -> u64
+) -> Result<(), Cause>
     ensures { result ≡ closing_cause day table.now
         (closing_given terms quantity.now money.now) }
 {
-    if !day_record::day_fit(day) {
-        return 2;
-    }
-    let form = closing_form(day, table, terms, quantity, money);
-    if form != 0 {
-        return form;
-    }
+    require(day_record::day_fit(day), Cause::Record)?;
+    require(
+        closing_lists_long(day, table, quantity, money),
+        Cause::Lengths,
+    )?;
+    require(ranges::zone_fit(terms.zone), Cause::Zone)?;
+    require(zone_open(terms.zone, day), Cause::Closed)?;
+    require(day_record::all_done(day, terms), Cause::Hour)?;
+    require(places::table_fit(day, table), Cause::Table)?;
     let prices = ranges::prices_fit(terms.excess_price, terms.shortfall_price);
-    table_cause(day, table, prices)
+    require(prices, Cause::Terms)
 }
