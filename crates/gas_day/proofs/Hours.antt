@@ -1,77 +1,73 @@
 -- An hour by its cause: what is answered where there is one, what the settlement may count on where there is none, and what is answered then. Assumes nothing.
-use mathlib.Core.Path.{◌≡◌, sym, ap, ◌∙◌}
+use mathlib.Core.Path.{◌≡◌, refl}
 use mathlib.Core.Bool.{true}
 use mathlib.Core.List.{List}
-use Prim.Native.Nat.{ℕ, ◌<◌}
+use Prim.Native.Nat.{ℕ}
 use native.Mathlib.Omega.{arith}
 use lib.IntN.{ℤ}
+use Rattle.std.specs.Prelude.{Result, Ok, Err}
+use Rattle.rules.specs.declared.Amounts.{Amounts}
+use Rattle.rules.specs.declared.Cause.{Cause}
 use Rattle.rules.specs.declared.Day.{Day}
+use Rattle.rules.specs.declared.HourTerms.{HourTerms}
 use Rattle.rules.specs.declared.Outcome.{Outcome}
-use Rattle.rules.specs.declared.HourAnswer.TheVariants.{Refused, Done}
+use Rattle.rules.specs.declared.Refusal.{Refusal}
+use Rattle.rules.specs.declared.HourDone.{HourDone}
+use Rattle.rules.specs.Refusals.{by_cause}
 use Rattle.rules.specs.Days.{users, part, day_after_hour}
-use Rattle.rules.specs.Hours.{Hour, before}
+use Rattle.rules.specs.Hours.{Hour, hour_given, before}
 use Rattle.rules.specs.Causes.{day_fit, amounts_fit, hour_cause, before_fit}
 use Rattle.rules.specs.Answers.{hour_imbalance, hour_answer, hour_table, hour_quantity, hour_money, hour_scratch}
 use Rattle.rules.specs.Promises.{HourPromise}
-use Rattle.rules.proofs.Refusing.{some_cause, by_none, by_some}
 use Rattle.rules.proofs.Zones.{length_part}
-use Rattle.rules.specs.Guarantees.{HourFit}
-use Rattle.rules.proofs.Accepted.{hour_number_lem, HourLengths, hour_lengths, hour_sound, part-fits}
-use Rattle.rules.proofs.Guarantees.{accepted_if_fit}
+use Rattle.rules.proofs.Accepted.{hour_fit_lem, HourLengths, hour_lengths, hour_sound, part-fits}
 use Rattle.positions.specs.Before.{befores, all_fit}
 use Rattle.positions.proofs.Before.{before_is}
 use Rattle.settlement.specs.Steps.{TableAsks, TableLeaves}
 
-module _ (d : Day) (t : List ℤ) (g : Hour) (c : ℕ) (is : c ≡ hour_cause d t g) where
-  pub refused : (c ≡ 0 → ⊥) → HourPromise d t g t g.quantity g.money g.scratch (Refused (record { number = c; day = d }))
-  unfolding hour_answer hour_table hour_quantity hour_money hour_scratch
-  refused n =
-      let k : 0 < hour_cause d t g = some_cause is n in
-      record {
-        answer = ap (λ (j : ℕ). Refused (record { number = j; day = d })) is ∙ sym (by_some _ _ _ k);
-        table = sym (by_some _ _ _ k);
-        quantity = sym (by_some _ _ _ k);
-        money = sym (by_some _ _ _ k);
-        scratch = sym (by_some _ _ _ k);
-      }
+module _ (d : Day) (t : List ℤ) (k : HourTerms) (a : Amounts) (q m : List ℤ) (s : List ℕ) where
+  abbrev g : Hour
+  g = hour_given k a q m s
 
-  module _ (z : c ≡ 0) where
-    none : hour_cause d t g ≡ 0
-    none = sym is ∙ z
+  pub not_done : {cause : Cause} {r : Result HourDone Refusal}
+      → hour_cause d t g ≡ Err cause → r ≡ Err (record { cause = cause; day = d }) → HourPromise d t g t q m s r
+  unfolding hour_answer hour_table hour_quantity hour_money hour_scratch by_cause
+  not_done is e = record { answer = rw (e, is) refl; table = rw is refl; quantity = rw is refl; money = rw is refl; scratch = rw is refl }
 
-    fit : HourFit d t g
-    fit = (accepted_if_fit.0 d t g).0 (hour_number_lem d t g ∙ none)
-
+  module _ (none : hour_cause d t g ≡ Ok tt) where
     lengths : HourLengths (users d) g
-    lengths = hour_lengths d t g fit.lengths
+    lengths = hour_lengths d t g (hour_fit_lem d t g none).lengths
 
-    positions_before : before d t g ≡ befores (part g.terms.zone t) g.entry g.exit g.title g.pooling
-    positions_before = before_is d t g lengths.entries
+    positions_before : before d t g ≡ befores (part k.zone t) a
+    positions_before = before_is d t k a q m s lengths.entries
 
     pub day_fits_lem : day_fit d ≡ true
-    day_fits_lem = fit.day
+    day_fits_lem = (hour_fit_lem d t g none).day
 
-    pub asks : TableAsks t g.entry g.exit g.title g.pooling g.terms g.quantity g.money g.scratch
+    pub asks : TableAsks t a k q m s
     unfolding amounts_fit before_fit all_fit
     asks =
-        let s = hour_sound d t g none in
+        let f = hour_fit_lem d t g none in
+        let sound = hour_sound d t g none in
         let l = lengths in
         record {
-          long = s.long;
+          long = sound.long;
           lists = record {
             amounts = record {
               lent = record {
-                exits = omega (arith, l.entries, l.exits);
-                titles = omega (arith, l.entries, l.titles);
-                poolings = omega (arith, l.entries, l.poolings);
-                few = omega (arith, l.entries, s.few);
-                room = omega (arith, l.entries, s.few, length_part t s.long s.zoned);
-                positions = part-fits g.terms.zone d t fit.table;
+                lists = record {
+                  exits = omega (arith, l.entries, l.exits);
+                  titles = omega (arith, l.entries, l.titles);
+                  poolings = omega (arith, l.entries, l.poolings);
+                };
+                few = omega (arith, l.entries, sound.few);
+                room = omega (arith, l.entries, sound.few, length_part t sound.long sound.zoned);
+                positions = part-fits k.zone d t f.table;
               };
-              fit = fit.amounts;
+              fit = f.amounts;
             };
-            positions = rw positions_before at fit.positions;
-            terms = fit.terms;
+            positions = rw positions_before at f.positions;
+            terms = f.terms;
             quantities = omega (arith, l.entries, l.quantities);
             moneys = omega (arith, l.entries, l.moneys);
             scratches = omega (arith, l.entries, l.scratches);
@@ -79,15 +75,15 @@ module _ (d : Day) (t : List ℤ) (g : Hour) (c : ℕ) (is : c ≡ hour_cause d 
         }
 
     pub done : (t' q' m' : List ℤ) (s' : List ℕ) (o : Outcome) (d' : Day)
-        → TableLeaves t t' g.entry g.exit g.title g.pooling g.terms q' m' g.scratch s' o → d' ≡ day_after_hour g.terms.zone d
-        → HourPromise d t g t' q' m' s' (Done (record { day = d'; outcome = o }))
-    unfolding hour_imbalance hour_answer hour_table hour_quantity hour_money hour_scratch
+        → TableLeaves t t' a k q' m' s s' o → d' ≡ day_after_hour k.zone d
+        → HourPromise d t g t' q' m' s' (Ok (record { day = d'; outcome = o }))
+    unfolding hour_imbalance hour_answer hour_table hour_quantity hour_money hour_scratch by_cause
     done t' q' m' s' o d' v e =
         let b = positions_before in
         record {
-          answer = rw (by_none _ _ _ none, b, e, v.lists.answer);
-          table = rw (by_none _ _ _ none, b) v.table;
-          quantity = rw (by_none _ _ _ none, b) v.lists.quantity;
-          money = rw (by_none _ _ _ none, b) v.lists.money;
-          scratch = rw (by_none _ _ _ none) v.lists.scratch;
+          answer = rw (none, b, e, v.lists.answer) refl;
+          table = rw (none, b) v.table;
+          quantity = rw (none, b) v.lists.quantity;
+          money = rw (none, b) v.lists.money;
+          scratch = rw none v.lists.scratch;
         }

@@ -1,18 +1,24 @@
 -- By the cause. Assumes nothing.
 use Rattle.integers.proofs.Machine.{back}
-use Rattle.gas_day.proofs.Closings.{refused, asks, done}
+use Rattle.rules.specs.Hours.{closing_given}
 use borrow.Author.Rules.{rules}
+use Rattle.gas_day.proofs.Closings.{not_closed, asks, done}
 use Rattle.gas_day.proofs.close_zone.Goals as goal
 
-pub returns-then-cause-ne0 : goal.returns-then-cause-ne0
-returns-then-cause-ne0 c = rw c.refusal.ensures (refused _ _ _ _ c.closing_cause-cause.ensures c.if-cause-ne0.true)
+pub returns-in_err-refused : goal.returns-in_err-refused
+returns-in_err-refused c =
+    let a = c.args in
+    not_closed a.day a.table.now (closing_given a.terms a.quantity.now a.money.now) {k = c.in_err-refused.field-0.0.cause} (search rules) (search rules)
 
 pub close_table-sums-requires : goal.close_table-sums-requires
-close_table-sums-requires c = asks _ _ _ _ c.closing_cause-cause.ensures c.if-cause-ne0.false
+close_table-sums-requires c =
+    let a = c.args in
+    asks a.day a.table.now (closing_given a.terms a.quantity.now a.money.now) (search rules)
 
 pub returns : goal.returns
 returns c =
+    let a = c.args in
     let sums = c.close_table-sums.result in
     rw (back sums.sold (search rules), back sums.bought (search rules))
-    (done _ _ _ _ c.closing_cause-cause.ensures c.if-cause-ne0.false _ _ _ _ _ _ c.close_table-sums.ensures
-    (rw (back c.args.terms.zone (search rules)) at c.day_after_closing-next.ensures))
+    (done a.day a.table.now (closing_given a.terms a.quantity.now a.money.now) (search rules) _ _ _ _ _ _ c.close_table-sums.ensures
+    (rw (back a.terms.zone (search rules)) at c.day_after_closing-next.ensures))

@@ -1,20 +1,28 @@
 -- By the cause. Assumes nothing.
 use Rattle.integers.proofs.Machine.{back}
-use Rattle.gas_day.proofs.Hours.{refused, day_fits_lem, asks, done}
 use borrow.Author.Rules.{rules}
+use Rattle.gas_day.proofs.Hours.{not_done, day_fits_lem, asks, done}
 use Rattle.gas_day.proofs.settle_hour.Goals as goal
 
-pub returns-then-cause-ne0 : goal.returns-then-cause-ne0
-returns-then-cause-ne0 c = rw c.refusal.ensures (refused _ _ _ _ c.hour_cause-cause.ensures c.if-cause-ne0.true)
+pub returns-in_err-refused : goal.returns-in_err-refused
+returns-in_err-refused c =
+    let a = c.args in
+    not_done a.day a.table.now a.terms a.amounts.now a.quantity.now a.money.now a.scratch.now {cause = c.in_err-refused.field-0.0.cause}
+    (search rules) (search rules)
 
 pub settle_table-outcome-requires : goal.settle_table-outcome-requires
-settle_table-outcome-requires c = asks _ _ _ _ c.hour_cause-cause.ensures c.if-cause-ne0.false
+settle_table-outcome-requires c =
+    let a = c.args in
+    asks a.day a.table.now a.terms a.amounts.now a.quantity.now a.money.now a.scratch.now (search rules)
 
 pub day_after_hour-next-requires : goal.day_after_hour-next-requires
-day_after_hour-next-requires c = day_fits_lem _ _ _ _ c.hour_cause-cause.ensures c.if-cause-ne0.false
+day_after_hour-next-requires c =
+    let a = c.args in
+    day_fits_lem a.day a.table.now a.terms a.amounts.now a.quantity.now a.money.now a.scratch.now (search rules)
 
 pub returns : goal.returns
 returns c =
-    done _ _ _ _ c.hour_cause-cause.ensures c.if-cause-ne0.false _ _ _ _ _ _
+    let a = c.args in
+    done a.day a.table.now a.terms a.amounts.now a.quantity.now a.money.now a.scratch.now (search rules) _ _ _ _ _ _
     c.settle_table-outcome.ensures
-    (rw (back c.args.terms.zone (search rules)) at c.day_after_hour-next.ensures)
+    (rw (back a.terms.zone (search rules)) at c.day_after_hour-next.ensures)
