@@ -16,6 +16,7 @@ use text::writing::{
 };
 
 // The zone's letter: 0 is H, 1 is L.
+#[tactic(auto, unfolding(crate::specs::Text::letter))]
 fn letter(zone: u32) -> u8
     ensures { result ≡ letter zone }
 {

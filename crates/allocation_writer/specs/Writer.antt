@@ -24,17 +24,12 @@ pub record Content : Type 0 where
   pub title : List ℤ
   pub pooling : List ℤ
 
--- the same from the call's parameters
+-- the same from the call's parameters, the amounts as four lists, as C gives them, or as one struct
+abbrev pub content_listed : ℤ → ℤ → ℤ → List ℤ → List ℤ → List ℤ → List ℤ → Content
+content_listed h z n a b c d = record { hour = h; zone = z; users = n; entry = a; exit = b; title = c; pooling = d }
+
 abbrev pub content : ℤ → ℤ → ℤ → Amounts → Content
-content h z n a = record {
-  hour = h;
-  zone = z;
-  users = n;
-  entry = a.entries.now;
-  exit = a.exits.now;
-  title = a.titles.now;
-  pooling = a.poolings.now;
-}
+content h z n a = content_listed h z n a.entries.now a.exits.now a.titles.now a.poolings.now
 
 -- ---- the text
 

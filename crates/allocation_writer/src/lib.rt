@@ -141,7 +141,7 @@ impl HourFile<'_> {
             × (result ≤ users_most * line_most) }
     {
         let mut total: usize = 0;
-        for place in 0..integers::natural(self.users) {
+        for place in 0..self.amounts.entries.len() {
             total += line_length(self.row_at(place));
         }
         total
@@ -172,7 +172,7 @@ impl HourFile<'_> {
         ensures { Put file.old at (lines_text (content_of self.now)) file.new result }
     {
         let mut end = at;
-        for place in 0..integers::natural(self.users) {
+        for place in 0..self.amounts.entries.len() {
             end = write_line(file, end, self.row_at(place));
         }
         end

@@ -1,7 +1,7 @@
 -- The rows of a content that neither 18 nor 19 turns away: their numbers, and the rows column by column. Assumes nothing.
 use mathlib.Core.Path.{◌≡◌, sym, ap, ◌∙◌}
 use mathlib.Core.Bool.{true}
-use mathlib.Core.List.{List, [], map}
+use mathlib.Core.List.{List, map}
 use Prim.Native.Nat.{ℕ, ◌^◌, ◌<◌}
 use native.Mathlib.Omega.{arith}
 use lib.IntN.{ℤ, pos, nat_abs}
@@ -13,7 +13,8 @@ use Rattle.integers.proofs.Counts.{length-tabulate}
 use Rattle.integers.proofs.Passes.{every_at}
 use Rattle.allocation_row.specs.declared.Row.{Row}
 use Rattle.allocation_writer.specs.Writer.{Content, row_at, rows_of, nine_digits}
-use Rattle.allocation_writer.proofs.Tests.{Counted, nine_means, Fitting}
+use Rattle.allocation_writer.specs.Steps.{Counted, Fitting}
+use Rattle.allocation_writer.proofs.Tests.{nine_means}
 use Rattle.writer_guarantees.proofs.Sizes.{Short}
 use Rattle.writer_guarantees.proofs.Lists.{All, all_tabulate, map-tabulate, tabulate-same, tabulate_own}
 
@@ -72,7 +73,7 @@ pub same_columns : (w : Content) (rs ts : List Row) → Columns w rs → Columns
 same_columns w rs ts p q = ext_get_or none rs ts long (λ i h. row i)
   where
     none : Row
-    none = row_at 0 0 [] [] [] [] 0
+    none = record { hour = 0; zone = 0; place = 0; entry = pos 0; exit = pos 0; title = pos 0; pooling = pos 0 }
 
     long : length rs ≡ length ts
     long = sym (length-map rs _) ∙ ap length (p.places ∙ sym q.places) ∙ length-map ts _

@@ -3,7 +3,6 @@ use mathlib.Core.Path.{refl}
 use Rattle.integers.specs.Lists.{every, tabulate}
 use Rattle.integers.specs.Ranges.{natural}
 use Rattle.rules.specs.Limits.{users_fit, zone_fit}
-use Rattle.rules.specs.Refusals.{unless, ◌then◌}
 use Rattle.text.specs.Bytes.{line_end}
 use Rattle.text.specs.Decimals.{digits_in, digits, decimal}
 use Rattle.allocation_text.specs.Text.{letter, field_texts, line_text}
@@ -20,5 +19,5 @@ unfolding tabulate natural line_end digits_in digits decimal letter field_texts 
 texts-computed = refl
 
 pub causes-computed : CausesComputed
-unfolding every tabulate natural users_fit zone_fit unless ◌then◌ line_end digits_in digits decimal letter field_texts line_text row_at rows_of ended file_text text_of of_count lists_fit count_fit nine_digits hour_fit amounts_short numbers_fit room_for write_cause causes
+unfolding every tabulate natural users_fit zone_fit line_end digits_in digits decimal letter field_texts line_text row_at rows_of ended file_text text_of of_count lists_fit count_fit nine_digits hour_fit amounts_short numbers_fit room_for write_cause causes
 causes-computed = refl

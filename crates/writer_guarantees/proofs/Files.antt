@@ -19,7 +19,8 @@ use Rattle.csv_lines.specs.Lines.{lines}
 use Rattle.allocation_row.specs.declared.Row.{Row}
 use Rattle.allocation_file.specs.File.{header, lines_of}
 use Rattle.allocation_writer.specs.Writer.{Content, rows_of, ended, file_text, text_of}
-use Rattle.allocation_writer.proofs.Tests.{Counted, counted_means, Fitting}
+use Rattle.allocation_writer.specs.Steps.{Counted, Fitting}
+use Rattle.allocation_writer.proofs.Tests.{counted_means}
 use Rattle.file_guarantees.specs.Guarantees.{NineDigits, Obeys}
 use Rattle.writer_guarantees.specs.Guarantees.{nine_digits_most, Fit}
 use Rattle.writer_guarantees.proofs.Lists.{All}

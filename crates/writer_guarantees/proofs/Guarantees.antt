@@ -1,24 +1,25 @@
 -- The proofs of specs/Guarantees.antt. Assumes nothing.
-use mathlib.Core.Path.{◌≡◌, refl, ap, ◌∙◌, subst}
+use mathlib.Core.Path.{◌≡◌, refl, sym, ap, ◌∙◌, subst}
 use mathlib.Core.Bool.{Bool, true, false, cond}
 use mathlib.Core.List.{List, ◌++◌, map}
 use mathlib.Core.Logic.{◌⊎◌, inl, inr}
-use Prim.Native.Nat.{ℕ, zero, suc, ◌≤◌}
+use Prim.Native.Nat.{ℕ, ◌≤◌}
 use native.Mathlib.Omega.{arith}
-use lib.Dec.{lit<}
 use lib.IntN.{ℤ, pos}
 use lib.ListN.{length, take, drop, length-map}
 use lib.Seq.{take_at, take-append_seam}
-use borrow.Author.Tests.{leb-true, le-leb}
+use borrow.Author.Tests.{le-leb}
 use Rattle.integers.specs.Ranges.{natural}
-use Rattle.rules.specs.Refusals.{unless, ◌then◌, by_cause}
-use Rattle.rules.proofs.Refusing.{unless_none, then_none}
+use Rattle.std.specs.Prelude.{Ok, Err}
+use Rattle.rules.proofs.Refusing.{then_none, by_none, cause_of}
 use Rattle.allocation_row.specs.declared.Row.{Row}
+use Rattle.allocation_row.specs.declared.FileCause.TheVariants.{Lists}
 use Rattle.allocation_lines.specs.Turns.{File, refused, read}
 use Rattle.allocation_file.specs.File.{file_of, all128, outcome, answer_of, list_of, ReadHour}
-use Rattle.allocation_file.specs.declared.FileAnswer.TheVariants.{Read}
-use Rattle.allocation_writer.specs.Writer.{Content, rows_of, file_text, text_of, count_fit, numbers_fit, room_for, write_cause, write_answer, written_file}
-use Rattle.allocation_writer.specs.declared.WriteAnswer.TheVariants.{Refused, Written}
+use Rattle.allocation_writer.specs.Writer.{rows_of, file_text, text_of, number, room_for, write_cause, write_answer, written_file}
+use Rattle.allocation_writer.specs.declared.WriteCause.{WriteCause}
+use Rattle.allocation_writer.specs.declared.WriteCause.TheVariants.{Counts, Digits, Room}
+use Rattle.allocation_writer.proofs.Calls.{accepts}
 use Rattle.allocation_writer.proofs.Tests.{counted_means, fitting_means}
 use Rattle.file_guarantees.proofs.Guarantees.{read_if_obeyed}
 use Rattle.writer_guarantees.specs.Guarantees.{Fit, WrittenIfFit, CauseOfThree, EnoughBytes, RoundTrip, WrittenIsRead, content_read, WrittenAgain, OneText}
@@ -29,44 +30,28 @@ use Rattle.writer_guarantees.proofs.Files.{text_obeys, file_text_lem, again_fit,
 
 -- ---- what is written
 
--- no cause: each test holds
-record Accepted (w : Content) (file : List ℕ) : Type 0 where
-  pub counts : count_fit w ≡ true
-  pub fits : numbers_fit w ≡ true
-  pub room : room_for w file ≡ true
-
-accepts : (w : Content) (file : List ℕ) → write_cause w file ≡ 0 → Accepted w file
-unfolding write_cause
-accepts w file e =
-    let p = then_none e in
-    let q = then_none p.1 in
-    record {
-      counts = unless_none _ _ (lit< tt) p.0;
-      fits = unless_none _ _ (lit< tt) q.0;
-      room = unless_none _ _ (lit< tt) q.1;
-    }
-
 pub written_if_fit : WrittenIfFit
-unfolding unless ◌then◌ room_for write_cause
+unfolding room_for write_cause
 written_if_fit w file = (from, to)
   where
-    from : write_cause w file ≡ 0 → Fit w × (length (text_of w) ≤ length file)
-    from e = let a = accepts w file e in (tests_fit w a.counts a.fits, leb-true _ _ a.room)
+    from : write_cause w file ≡ Ok tt → Fit w × (length (text_of w) ≤ length file)
+    from e = let a = accepts w file e in (tests_fit w a.counts a.numbers, a.room)
 
-    to : Fit w × (length (text_of w) ≤ length file) → write_cause w file ≡ 0
+    to : Fit w × (length (text_of w) ≤ length file) → write_cause w file ≡ Ok tt
     to p = rw (fit_counted w p.0, fit_numbers w p.0, le-leb _ _ p.1)
 
 pub cause_of_three : CauseOfThree
-unfolding unless ◌then◌ write_cause
-cause_of_three w file = go (count_fit w) (numbers_fit w) (room_for w file)
+cause_of_three w file = go (cause_of (write_cause w file))
   where
-    go : (a b c : Bool)
-        → ((unless a 18 then unless b 19 then unless c 20) ≡ 0)
-        ⊎ ((18 ≤ (unless a 18 then unless b 19 then unless c 20)) × ((unless a 18 then unless b 19 then unless c 20) ≤ 20))
-    go true true true = inl refl
-    go true true false = inr (omega arith, omega arith)
-    go true false c = inr (omega arith, omega arith)
-    go false b c = inr (omega arith, omega arith)
+    within : (k : WriteCause) → (18 ≤ number k) × (number k ≤ 20)
+    within Counts = (omega arith, omega arith)
+    within Digits = (omega arith, omega arith)
+    within Room = (omega arith, omega arith)
+
+    go : (write_cause w file ≡ Ok tt) ⊎ ((k : WriteCause) × (write_cause w file ≡ Err k))
+        → (write_cause w file ≡ Ok tt) ⊎ ((k : WriteCause) × (write_cause w file ≡ Err k) × ((18 ≤ number k) × (number k ≤ 20)))
+    go (inl e) = inl e
+    go (inr p) = inr (p.0, p.1, within p.0)
 
 pub enough_bytes : EnoughBytes
 unfolding file_text text_of
@@ -98,24 +83,20 @@ round_trip w f a b c d long r a' b' c' d' t =
       poolings = t.poolings ∙ rw q (list_read _ h z rows w.pooling d m.poolings);
     }
 
--- a call that has written has no cause
-no_cause : (k : ℕ) (m n : ℤ) → Written n ≡ by_cause k (Written m) (Refused k) → (k ≡ 0) × (n ≡ m)
-unfolding by_cause
-no_cause zero m n e = (refl, cc)
-no_cause (suc k) m n e = let q : ◌≡◌ {A = ℕ} 0 1 = cc in absurd (omega arith)
-
 pub written_is_read : WrittenIsRead
-unfolding natural write_answer written_file by_cause
+unfolding natural write_answer written_file
 written_is_read w file file' n t a b c d long r a' b' c' d' h =
-    let k = no_cause (write_cause w file) (pos (length (text_of w))) n t.answer in
+    let k = then_none (sym t.answer) in
     let accepted = accepts w file k.0 in
-    let text : take (natural n) file' ≡ text_of w = rw (k.1, t.bytes, k.0) (take-append_seam (text_of w) _) in
-    round_trip w (tests_fit w accepted.counts accepted.fits) a b c d long r a' b' c' d' (subst (λ (s : List ℕ). ReadHour s a b c d r a' b' c' d') text h)
+    let many : n ≡ pos (length (text_of w)) = cc in
+    let bytes = t.bytes ∙ by_none _ _ _ k.0 in
+    let text : take (natural n) file' ≡ text_of w = rw (many, bytes) (take-append_seam (text_of w) _) in
+    round_trip w (tests_fit w accepted.counts accepted.numbers) a b c d long r a' b' c' d' (subst (λ (s : List ℕ). ReadHour s a b c d r a' b' c' d') text h)
 
 -- ---- what is read has one text without a point
 
 -- a call that has read was lent lists of 128 places
-right_lists : (b : Bool) (s : List ℕ) (h z : ℕ) (rows : List Row) → cond b (file_of s) (refused 12) ≡ read h z rows → b ≡ true
+right_lists : (b : Bool) (s : List ℕ) (h z : ℕ) (rows : List Row) → cond b (file_of s) (refused Lists) ≡ read h z rows → b ≡ true
 right_lists true s h z rows e = refl
 right_lists false s h z rows e = let q : ◌≡◌ {A = ℕ} 0 1 = cc in absurd (omega arith)
 
@@ -127,7 +108,7 @@ pub one_text : OneText
 unfolding natural text_of
 one_text s before e p a b c d f a' b' c' d' t = go (outcome s a b c d) refl t.answer t.entries t.exits t.titles t.poolings
   where
-    go : (w : File) → outcome s a b c d ≡ w → Read f ≡ answer_of w
+    go : (w : File) → outcome s a b c d ≡ w → Ok f ≡ answer_of w
         → a' ≡ list_of (λ r. r.entry) w a → b' ≡ list_of (λ r. r.exit) w b → c' ≡ list_of (λ r. r.title) w c → d' ≡ list_of (λ r. r.pooling) w d
         → WrittenAgain (content_read f a' b' c' d') s
     go (refused n) w q i j k l = let q : ◌≡◌ {A = ℕ} 0 1 = cc in absurd (omega arith)

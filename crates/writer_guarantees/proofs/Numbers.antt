@@ -10,12 +10,11 @@ use lib.IntN.{ℤ, pos, negsuc, nat_abs}
 use lib.ListN.{length, get_or, length-append, get_or-append}
 use lib.Seq.{append_snoc}
 use borrow.Author.Tests.{ltb-true, ltb-false, leb-true, le-leb, eqb-false, ne_eqb}
+use Rattle.std.specs.Prelude.{Some}
 use Rattle.integers.proofs.Tests.{and_true}
 use Rattle.text.specs.Bytes.{comma, minus_sign, digit0, digit9}
 use Rattle.text.specs.Decimals.{digits, decimal}
 use Rattle.text.specs.Numbers.{is_digit, digits_from, digits_of, needless_zero, unsigned_of, has_point, amount_of}
-use Rattle.text.specs.declared.number.Unsigned.TheVariants.{Number}
-use Rattle.text.specs.declared.number.Amount.TheVariants.{Kwh}
 use Rattle.text.proofs.Decimals.{digits_one, digits_more, digits-length}
 use Rattle.text.proofs.Numbers.{number_if, number_unless, zero_leads}
 use Rattle.text.proofs.Points.{number_no_point, point_among}
@@ -83,7 +82,7 @@ digits_are n = below (suc n) n (omega arith)
 -- ---- a number, written and read
 
 -- below 10 ^ 9: the number again
-pub unsigned_back : (n : ℕ) → n < 10 ^ 9 → unsigned_of (digits n) ≡ Number n
+pub unsigned_back : (n : ℕ) → n < 10 ^ 9 → unsigned_of (digits n) ≡ Some n
 unsigned_back n h =
     let d = digits_are n in
     let l = digits n in
@@ -95,17 +94,17 @@ unsigned_back n h =
 record Digit (v x : ℕ) (f : List ℕ) (n : ℕ) : Type 0 where
   pub low : digit0 ≤ x
   pub high : x ≤ digit9
-  pub rest : digits_from (v * 10 + (x - digit0)) f ≡ Number n
+  pub rest : digits_from (v * 10 + (x - digit0)) f ≡ Some n
 
 -- since its test held
-digit_first : (v x : ℕ) (f : List ℕ) (n : ℕ) → digits_from v (x ∷ f) ≡ Number n → Digit v x f n
+digit_first : (v x : ℕ) (f : List ℕ) (n : ℕ) → digits_from v (x ∷ f) ≡ Some n → Digit v x f n
 digit_first v x f n e =
     let q = number_if (is_digit x) (digits_from (v * 10 + (x - digit0)) f) n e in
     let d = and_true (leb digit0 x) (leb x digit9) q.0 in
     record { low = leb-true digit0 x d.0; high = leb-true x digit9 d.1; rest = q.1 }
 
 -- digits after those of v, which is above 0
-digits_on : (f : List ℕ) (v n : ℕ) → 0 < v → digits_from v f ≡ Number n → digits v ++ f ≡ digits n
+digits_on : (f : List ℕ) (v n : ℕ) → 0 < v → digits_from v f ≡ Some n → digits v ++ f ≡ digits n
 digits_on [] v n h e = append-nil (digits v) ∙ ap digits (cc)
 digits_on (x ∷ f) v n h e =
     let d = digit_first v x f n e in
@@ -115,14 +114,14 @@ digits_on (x ∷ f) v n h e =
     rw (digits_more w (omega arith), tenth, last, append_snoc) at (digits_on f w n (omega arith) d.rest)
 
 -- the field again
-pub unsigned_text : (f : List ℕ) (n : ℕ) → unsigned_of f ≡ Number n → f ≡ digits n
+pub unsigned_text : (f : List ℕ) (n : ℕ) → unsigned_of f ≡ Some n → f ≡ digits n
 unsigned_text f n e =
     let a = number_unless (needless_zero f) (digits_of f) n e in
     let b = number_if (leb 1 (length f) && leb (length f) 9) (digits_from 0 f) n a.1 in
     let c = leb-true 1 (length f) (and_true (leb 1 (length f)) (leb (length f) 9) b.0).0 in
     go f c a.0 b.1
   where
-    go : (f : List ℕ) → 1 ≤ length f → needless_zero f ≡ false → digits_from 0 f ≡ Number n → f ≡ digits n
+    go : (f : List ℕ) → 1 ≤ length f → needless_zero f ≡ false → digits_from 0 f ≡ Some n → f ≡ digits n
     go [] l z e = absurd (not-suc-le-zero l)
     go (x ∷ []) l z e =
         let d = digit_first 0 x [] n e in
@@ -143,7 +142,7 @@ digits-size : (n : ℕ) → n < 10 ^ 9 → Size (digits n) n
 digits-size n h = let e = unsigned_back n h in in_kwh (digits n) n (number_no_point (digits n) n e) e
 
 -- written and read: below 10 ^ 9 in size, the amount again
-pub amount_back : (x : ℤ) → nat_abs x < 10 ^ 9 → amount_of (decimal x) ≡ Kwh x
+pub amount_back : (x : ℤ) → nat_abs x < 10 ^ 9 → amount_of (decimal x) ≡ Some x
 unfolding decimal
 amount_back (pos n) h = (two_forms (digits n) (pos n)).1 (unsigned (digits-size n h))
 amount_back (negsuc n) h = (two_forms (minus_sign ∷ digits (suc n)) (negsuc n)).1 (minus (digits-size (suc n) h))
@@ -157,7 +156,7 @@ size_text (in_mwh w d m k short i three j) h =
     absurd (omega arith)
 
 -- read and written: the field again, if it has no point
-pub amount_text : (f : List ℕ) (x : ℤ) → has_point f ≡ false → amount_of f ≡ Kwh x → f ≡ decimal x
+pub amount_text : (f : List ℕ) (x : ℤ) → has_point f ≡ false → amount_of f ≡ Some x → f ≡ decimal x
 unfolding decimal
 amount_text f x h e = go ((two_forms f x).0 e) h
   where

@@ -7,19 +7,19 @@ use native.Mathlib.Omega.{arith}
 use lib.Dec.{eqb}
 use lib.ListN.{length}
 use borrow.Author.Tests.{eqb-true, ne_eqb}
+use Rattle.std.specs.Prelude.{Some, None, Ok, Err, ok_or}
 use Rattle.integers.specs.Lists.{every, tabulate}
 use Rattle.integers.proofs.Tests.{and_true}
 use Rattle.text.specs.Bytes.{comma, quote_mark, carriage_return, line_feed}
 use Rattle.text.specs.Numbers.{has_point}
-use Rattle.text.specs.declared.number.Unsigned.TheVariants.{Number, NoNumber}
 use Rattle.csv_lines.specs.Lines.{fields, field_at, lines}
 use Rattle.allocation_row.specs.Rows.{is_plain, is_form, letter_h, letter_l, zone_of, as_row, row_of, fields_of as row_fields}
 use Rattle.allocation_row.specs.declared.Row.{Row}
-use Rattle.allocation_row.specs.declared.Line.TheVariants.{Good, Faulty}
+use Rattle.allocation_row.specs.declared.FileCause.TheVariants.{Form, Field}
 use Rattle.allocation_text.specs.Text.{letter, field_texts, joined, line_text}
 use Rattle.allocation_writer.specs.Writer.{ended}
 use Rattle.file_guarantees.specs.Guarantees.{NineDigits}
-use Rattle.file_guarantees.proofs.Rows.{MadeOf, either}
+use Rattle.file_guarantees.proofs.Rows.{MadeOf, made_of}
 use Rattle.file_guarantees.proofs.Guarantees.{small_numbers}
 use Rattle.writer_guarantees.proofs.Lists.{All, Above, above-less, all_every, tabulate_own}
 use Rattle.writer_guarantees.proofs.Numbers.{unsigned_back, unsigned_text, amount_back, amount_text, digits_above, decimal-above}
@@ -31,19 +31,19 @@ use Rattle.writer_guarantees.proofs.Lines.{line-ended}
 -- ---- the zone's letter
 
 -- written and read
-zone_back : (z : ℕ) → z ≤ 1 → zone_of (letter z ∷ []) ≡ Number z
+zone_back : (z : ℕ) → z ≤ 1 → zone_of (letter z ∷ []) ≡ Some z
 unfolding letter
 zone_back zero h = refl
 zone_back (suc zero) h = refl
 zone_back (suc (suc z)) h = absurd (omega arith)
 
 -- read and written
-zone_text_lem : (f : List ℕ) (z : ℕ) → zone_of f ≡ Number z → f ≡ letter z ∷ []
+zone_text_lem : (f : List ℕ) (z : ℕ) → zone_of f ≡ Some z → f ≡ letter z ∷ []
 unfolding letter
 zone_text_lem [] z e = let q : ◌≡◌ {A = ℕ} 0 1 = cc in absurd (omega arith)
 zone_text_lem (x ∷ []) z e = go (eqb x letter_h) (eqb x letter_l) refl refl e
   where
-    go : (a b : Bool) → eqb x letter_h ≡ a → eqb x letter_l ≡ b → cond a (Number 0) (cond b (Number 1) NoNumber) ≡ Number z → x ∷ [] ≡ letter z ∷ []
+    go : (a b : Bool) → eqb x letter_h ≡ a → eqb x letter_l ≡ b → cond a (Some 0) (cond b (Some 1) None) ≡ Some z → x ∷ [] ≡ letter z ∷ []
     go true b h l e = let q : 0 ≡ z = cc in rw (eqb-true x letter_h h, ← q)
     go false true h l e = let q : 1 ≡ z = cc in rw (eqb-true x letter_l l, ← q)
     go false false h l e = let q : ◌≡◌ {A = ℕ} 0 1 = cc in absurd (omega arith)
@@ -89,7 +89,7 @@ unfolding field_texts line_text
 line-fields r = fields-joined _ _ (fields-above r)
 
 -- written and read
-row_back : (r : Row) → NineDigits r → row_of (line_text r) ≡ Good r
+row_back : (r : Row) → NineDigits r → row_of (line_text r) ≡ Ok r
 unfolding as_row field_texts
 row_back r n =
     rw (
@@ -105,18 +105,18 @@ row_back r n =
     )
 
 -- a line that is read has the right form
-form : (l : List ℕ) (r : Row) → row_of l ≡ Good r → is_form l ≡ true
+form : (l : List ℕ) (r : Row) → row_of l ≡ Ok r → is_form l ≡ true
 form l r e = go (is_form l) e
   where
-    go : (b : Bool) → cond b (row_fields l) (Faulty 14) ≡ Good r → b ≡ true
+    go : (b : Bool) → cond b (ok_or (row_fields l) Field) (Err Form) ≡ Ok r → b ≡ true
     go true e = refl
     go false e = let q : ◌≡◌ {A = ℕ} 0 1 = cc in absurd (omega arith)
 
 -- read and written, if it has no point
-row_text : (l : List ℕ) (r : Row) → has_point l ≡ false → row_of l ≡ Good r → l ≡ line_text r
+row_text : (l : List ℕ) (r : Row) → has_point l ≡ false → row_of l ≡ Ok r → l ≡ line_text r
 unfolding tabulate field_texts line_text
 row_text l r h e =
-    let m : MadeOf l r = rw e at (either l) in
+    let m : MadeOf l r = rw e at (made_of l) in
     let p = field_no_point l h in
     let seven = eqb-true (length (fields l)) 7 (and_true (every is_plain l) (eqb (length (fields l)) 7) (form l r e)).1 in
     let all = rw seven at (tabulate_own [] (fields l)) in
@@ -142,19 +142,19 @@ lines_back (r ∷ rows) =
     line-ended (line_text r) (ended (map line_text rows)) above ∙ rw (lines_back rows)
 
 -- written and read
-pub rows_back : (rows : List Row) → All Short rows → map row_of (map line_text rows) ≡ map Good rows
+pub rows_back : (rows : List Row) → All Short rows → map row_of (map line_text rows) ≡ map Ok rows
 rows_back [] n = refl
 rows_back (r ∷ rows) n = rw (row_back r n.0.nine, rows_back rows n.1)
 
 -- read and written, if they have no point
-pub rows_text : (ls : List (List ℕ)) (rows : List Row) → All NoPoint ls → map row_of ls ≡ map Good rows → ls ≡ map line_text rows
+pub rows_text : (ls : List (List ℕ)) (rows : List Row) → All NoPoint ls → map row_of ls ≡ map Ok rows → ls ≡ map line_text rows
 rows_text [] [] h e = refl
 rows_text [] (r ∷ rows) h e = let q : ◌≡◌ {A = ℕ} 0 1 = cc in absurd (omega arith)
 rows_text (l ∷ ls) [] h e = let q : ◌≡◌ {A = ℕ} 0 1 = cc in absurd (omega arith)
 rows_text (l ∷ ls) (r ∷ rows) h e = cc (row_text l r h.0 (cc), rows_text ls rows h.1 (cc))
 
 -- rows that are read have small numbers
-pub rows_nine : (ls : List (List ℕ)) (rows : List Row) → map row_of ls ≡ map Good rows → All NineDigits rows
+pub rows_nine : (ls : List (List ℕ)) (rows : List Row) → map row_of ls ≡ map Ok rows → All NineDigits rows
 rows_nine ls [] e = tt
 rows_nine [] (r ∷ rows) e = let q : ◌≡◌ {A = ℕ} 0 1 = cc in absurd (omega arith)
 rows_nine (l ∷ ls) (r ∷ rows) e = (small_numbers l r (cc), rows_nine ls rows (cc))

@@ -1,17 +1,18 @@
 -- Small contents, and what the definitions say of them, which proofs/Examples.antt computes. Assumes nothing.
 use Rattle.std.specs.Prelude.{ℕ, ◌-◌, ◌^◌, ◌≡◌, List, [], ◌∷◌, ◌++◌, map, ℤ, pos, negsuc, replicate}
 use Prim.Native.String.{String}
+use Rattle.rules.specs.Answers.{number_by}
 use Rattle.text.specs.Bytes.{bytes}
 use Rattle.allocation_file.specs.File.{header}
 use Rattle.file_guarantees.specs.Examples.{case_a_text}
-use Rattle.allocation_writer.specs.Writer.{Content, content, text_of, write_cause}
+use Rattle.allocation_writer.specs.Writer.{Content, content_listed, text_of, number, write_cause}
 
 -- ---- texts
 
 -- "the file of document 01": case A's lists give case A's file
 abbrev pub CaseAWritten : Type 0
 CaseAWritten =
-    text_of (content (pos 1) (pos 0) (pos 3)
+    text_of (content_listed (pos 1) (pos 0) (pos 3)
     (pos 30000000 ∷ pos 15000000 ∷ pos 2000000 ∷ [])
     (negsuc 9999999 ∷ negsuc 4999999 ∷ negsuc 4999999 ∷ [])
     (pos 0 ∷ pos 0 ∷ pos 0 ∷ [])
@@ -28,11 +29,11 @@ shown w t = record { content = w; lines = t }
 
 -- one user with these numbers
 abbrev pub alone : ℤ → ℤ → ℤ → ℤ → ℤ → ℤ → Content
-alone h z a b c d = content h z (pos 1) (a ∷ []) (b ∷ []) (c ∷ []) (d ∷ [])
+alone h z a b c d = content_listed h z (pos 1) (a ∷ []) (b ∷ []) (c ∷ []) (d ∷ [])
 
 -- n users, each with the amounts 1, -1, 20 and -20
 abbrev pub alike : ℕ → Content
-alike n = content (pos 24) (pos 1) (pos n) (replicate n (pos 1)) (replicate n (negsuc 0)) (replicate n (pos 20)) (replicate n (negsuc 19))
+alike n = content_listed (pos 24) (pos 1) (pos n) (replicate n (pos 1)) (replicate n (negsuc 0)) (replicate n (pos 20)) (replicate n (negsuc 19))
 
 -- hour 0 and no amounts; the largest and the least of nine digits; places of one digit and of two
 unfoldable pub texts : List Shown
@@ -49,7 +50,7 @@ TextsComputed = map (λ e. text_of e.content) texts ≡ map (λ e. header ++ byt
 
 -- ---- causes
 
--- a content, how many bytes are lent, and the cause: 0 for none
+-- a content, how many bytes are lent, and the cause's number: 0 for none
 pub record Example : Type 0 where
   pub content : Content
   pub lent : ℕ
@@ -60,7 +61,7 @@ given w n k = record { content = w; lent = n; cause = k }
 
 -- lists of these lengths for the count n, in the zone z
 abbrev pub lists : ℤ → ℤ → ℕ → ℕ → ℕ → ℕ → Content
-lists z n a b c d = content (pos 1) z n (replicate a (pos 0)) (replicate b (pos 0)) (replicate c (pos 0)) (replicate d (pos 0))
+lists z n a b c d = content_listed (pos 1) z n (replicate a (pos 0)) (replicate b (pos 0)) (replicate c (pos 0)) (replicate d (pos 0))
 
 -- the least and the largest number of 64 bits, and the first of ten digits on either side of zero
 least : ℤ
@@ -121,4 +122,4 @@ causes =
     ∷ given (alone ten_digits (pos 0) (pos 0) (pos 0) (pos 0) (pos 0)) 0 19 ∷ []
 
 abbrev pub CausesComputed : Type 0
-CausesComputed = map (λ e. write_cause e.content (replicate e.lent 0)) causes ≡ map (λ e. e.cause) causes
+CausesComputed = map (λ e. number_by number (write_cause e.content (replicate e.lent 0))) causes ≡ map (λ e. e.cause) causes

@@ -1,17 +1,16 @@
 -- What holds of every file that is written, by the writer's definitions and by the reader's. Statements only; the proofs are in
 -- proofs/Guarantees.antt, and the crate `certificate` asks for each. Assumes nothing.
-use Rattle.std.specs.Prelude.{ℕ, ◌+◌, ◌*◌, ◌-◌, ◌^◌, ◌≤◌, ◌≡◌, true, false, List, ◌++◌, ◌⊎◌, ◌↔◌, ℤ, pos, length, take, drop}
+use Rattle.std.specs.Prelude.{ℕ, ◌+◌, ◌*◌, ◌-◌, ◌^◌, ◌≤◌, ◌≡◌, true, false, List, ◌++◌, ◌⊎◌, ◌↔◌, ℤ, pos, length, take, drop, Result, Ok, Err}
 use Rattle.integers.specs.Ranges.{natural}
 use Rattle.integers.specs.Lists.{AtMost}
 use Rattle.rules.specs.Limits.{users_most}
 use Rattle.text.specs.Bytes.{line_end}
 use Rattle.text.specs.Numbers.{has_point}
+use Rattle.allocation_row.specs.declared.FileCause.{FileCause}
 use Rattle.allocation_file.specs.File.{header, all128, ReadHour}
 use Rattle.allocation_file.specs.declared.FileRead.{FileRead}
-use Rattle.allocation_file.specs.declared.FileAnswer.{FileAnswer}
-use Rattle.allocation_file.specs.declared.FileAnswer.TheVariants.{Read}
-use Rattle.allocation_writer.specs.Writer.{Content, text_of, write_cause, WriteHour}
-use Rattle.allocation_writer.specs.declared.WriteAnswer.TheVariants.{Written}
+use Rattle.allocation_writer.specs.declared.WriteCause.{WriteCause}
+use Rattle.allocation_writer.specs.Writer.{Content, text_of, number, write_cause, WriteHour}
 
 -- ---- what is written
 
@@ -45,11 +44,13 @@ pub record Fit (w : Content) : Type 0 where
 
 -- "Every amount of up to nine digits can be written": a content is written if and only if none of the three causes exists
 abbrev pub WrittenIfFit : Type 0
-WrittenIfFit = (w : Content) (file : List ℕ) → (write_cause w file ≡ 0) ↔ (Fit w × (length (text_of w) ≤ length file))
+WrittenIfFit = (w : Content) (file : List ℕ) → (write_cause w file ≡ Ok tt) ↔ (Fit w × (length (text_of w) ≤ length file))
 
 -- a call that is refused has one of the three causes
 abbrev pub CauseOfThree : Type 0
-CauseOfThree = (w : Content) (file : List ℕ) → (write_cause w file ≡ 0) ⊎ ((18 ≤ write_cause w file) × (write_cause w file ≤ 20))
+CauseOfThree =
+    (w : Content) (file : List ℕ)
+    → (write_cause w file ≡ Ok tt) ⊎ ((k : WriteCause) × (write_cause w file ≡ Err k) × ((18 ≤ number k) × (number k ≤ 20)))
 
 -- so many bytes are enough for every file: 25 for the header, and 61 for each of at most 128 lines (the hour 9, the letter 1, the place 3, four amounts of 10, six commas,
 -- CR LF)
@@ -62,8 +63,8 @@ EnoughBytes = (w : Content) → Fit w → length (text_of w) ≤ bytes_most
 -- ---- what is written is read
 
 -- the reader's answer r and its lists a' b' c' d' after it have the content w: "the same hour, zone and amounts"; beyond them the lists are as they were lent
-pub record ReadBack (w : Content) (a b c d : List ℤ) (r : FileAnswer) (a' b' c' d' : List ℤ) : Type 0 where
-  pub answer : r ≡ Read (record { hour = w.hour; zone = w.zone; lines = w.users })
+pub record ReadBack (w : Content) (a b c d : List ℤ) (r : Result FileRead FileCause) (a' b' c' d' : List ℤ) : Type 0 where
+  pub answer : r ≡ Ok (record { hour = w.hour; zone = w.zone; lines = w.users })
   pub entries : a' ≡ w.entry ++ drop (length w.entry) a
   pub exits : b' ≡ w.exit ++ drop (length w.exit) b
   pub titles : c' ≡ w.title ++ drop (length w.title) c
@@ -75,15 +76,15 @@ abbrev pub RoundTrip : Type 0
 RoundTrip =
     (w : Content) → Fit w
     → (a b c d : List ℤ) → all128 (length a) (length b) (length c) (length d) ≡ true
-    → (r : FileAnswer) (a' b' c' d' : List ℤ) → ReadHour (text_of w) a b c d r a' b' c' d'
+    → (r : Result FileRead FileCause) (a' b' c' d' : List ℤ) → ReadHour (text_of w) a b c d r a' b' c' d'
     → ReadBack w a b c d r a' b' c' d'
 
 -- the two calls together: what an accepted writer leaves in the first bytes, as many as it answers, is read back
 abbrev pub WrittenIsRead : Type 0
 WrittenIsRead =
-    (w : Content) (file file' : List ℕ) (n : ℤ) → WriteHour w file (Written n) file'
+    (w : Content) (file file' : List ℕ) (n : ℤ) → WriteHour w file (Ok n) file'
     → (a b c d : List ℤ) → all128 (length a) (length b) (length c) (length d) ≡ true
-    → (r : FileAnswer) (a' b' c' d' : List ℤ) → ReadHour (take (natural n) file') a b c d r a' b' c' d'
+    → (r : Result FileRead FileCause) (a' b' c' d' : List ℤ) → ReadHour (take (natural n) file') a b c d r a' b' c' d'
     → ReadBack w a b c d r a' b' c' d'
 
 -- ---- what is read has one text without a point
@@ -112,5 +113,5 @@ pub record WrittenAgain (w : Content) (s : List ℕ) : Type 0 where
 abbrev pub OneText : Type 0
 OneText =
     (s before : List ℕ) → s ≡ before ++ line_end → has_point s ≡ false
-    → (a b c d : List ℤ) (f : FileRead) (a' b' c' d' : List ℤ) → ReadHour s a b c d (Read f) a' b' c' d'
+    → (a b c d : List ℤ) (f : FileRead) (a' b' c' d' : List ℤ) → ReadHour s a b c d (Ok f) a' b' c' d'
     → WrittenAgain (content_read f a' b' c' d') s
