@@ -1,23 +1,23 @@
 -- "Figures to be proved: cases A to K", as one list over the definitions of the rules and of the file. "a threshold or price not named is 0". Beside the numbers that document 01
 -- prints stand the whole answer of each case (outcome, side, total, marks, the record after) and what is left in the table, worked out by hand from its rules. Assumes nothing.
-use Rattle.std.specs.Prelude.{◌≡◌, Bool, true, false, List, [], ◌∷◌, ◌++◌, map, ℕ, ℤ, pos, neg_ℤ, length, get_or, take, replicate}
+use Rattle.std.specs.Prelude.{◌≡◌, Result, Ok, Err, Bool, true, false, List, [], ◌∷◌, ◌++◌, map, ℕ, ℤ, pos, neg_ℤ, length, get_or, take, replicate}
 use Rattle.rules.specs.declared.Day.{Day}
+use Rattle.rules.specs.declared.Refusal.{Refusal}
 use Rattle.rules.specs.declared.HourTerms.{HourTerms}
 use Rattle.rules.specs.declared.Side.{Side}
 use Rattle.rules.specs.declared.Side.TheVariants.{Excess, Shortfall}
 use Rattle.rules.specs.declared.Outcome.TheVariants.{Within, Settled}
-use Rattle.rules.specs.declared.HourAnswer.{HourAnswer}
-use Rattle.rules.specs.declared.HourAnswer.TheVariants.{Done}
-use Rattle.rules.specs.declared.ClosingAnswer.{ClosingAnswer}
-use Rattle.rules.specs.declared.ClosingAnswer.TheVariants.{Closed}
+use Rattle.rules.specs.declared.HourDone.{HourDone}
+use Rattle.rules.specs.declared.ClosingDone.{ClosingDone}
 use Rattle.rules.specs.Limits.{length_usual}
 use Rattle.rules.specs.Days.{new_day, part}
 use Rattle.rules.specs.Thresholds.{upper_default, lower_default}
 use Rattle.rules.specs.Hours.{Hour, Closing, before}
 use Rattle.rules.specs.Answers.{open_table, hour_answer, hour_table, hour_quantity, hour_money, closing_answer, closing_table, closing_quantity, closing_money}
 use Rattle.rules.specs.History.{State, hour, step}
-use Rattle.allocation_file.specs.declared.FileAnswer.{FileAnswer}
-use Rattle.allocation_file.specs.declared.FileAnswer.TheVariants.{Refused, Read}
+use Rattle.allocation_row.specs.declared.FileCause.{FileCause}
+use Rattle.allocation_row.specs.Causes.{number as file_number}
+use Rattle.allocation_file.specs.declared.FileRead.{FileRead}
 use Rattle.text.specs.Bytes.{bytes}
 use Rattle.allocation_lines.specs.Turns.{File}
 use Rattle.allocation_file.specs.File.{outcome, answer_of, list_of}
@@ -26,8 +26,8 @@ use Rattle.file_guarantees.specs.Examples.{case_a_text}
 -- what a case says: numbers, or the whole answer of an hour or of a closing
 pub data Said : Type 0 where
   numbers : List ℤ → Said
-  of_hour : HourAnswer → Said
-  of_closing : ClosingAnswer → Said
+  of_hour : Result HourDone Refusal → Said
+  of_closing : Result ClosingDone Refusal → Said
 
 -- what the definitions give, and what the paper says
 pub record Figure : Type 0 where
@@ -50,10 +50,10 @@ day_of n hours closed =
 
 -- an accepted hour within its thresholds, and one that was settled: its side, and the causers of places 0 to 63 with their number
 abbrev pub was_within : Day → Said
-was_within d = of_hour (Done (record { day = d; outcome = Within }))
+was_within d = of_hour (Ok (record { day = d; outcome = Within }))
 
 abbrev pub was_settled : Day → Side → ℕ → ℕ → Said
-was_settled d side first number = of_hour (Done (record { day = d; outcome = Settled side (record { first = first; second = 0; number = number }) }))
+was_settled d side first number = of_hour (Ok (record { day = d; outcome = Settled side (record { first = first; second = 0; number = number }) }))
 
 -- ---- what the definitions give
 
@@ -113,9 +113,9 @@ unfoldable pub file_a : File
 file_a = outcome (bytes case_a_text) nines nines nines nines
 
 -- what the reader answers: hour, zone and number of lines; or the cause alone
-unfoldable pub said_by : FileAnswer → List ℤ
-said_by (Refused cause) = pos cause ∷ []
-said_by (Read f) = f.hour ∷ f.zone ∷ f.lines ∷ []
+unfoldable pub said_by : Result FileRead FileCause → List ℤ
+said_by (Err cause) = pos (file_number cause) ∷ []
+said_by (Ok f) = f.hour ∷ f.zone ∷ f.lines ∷ []
 
 unfoldable pub said_a : List ℤ
 said_a = said_by (answer_of file_a)
@@ -220,7 +220,7 @@ figures_h =
     record { defined = numbers (closing_money d table_h case_h); paper = numbers (pos 40_000 ∷ neg 50_000 ∷ []) }
     ∷ record { defined = numbers (closing_quantity d table_h case_h); paper = numbers (pos 2 ∷ neg 2 ∷ []) }
     ∷ record { defined = numbers (closing_table d table_h case_h); paper = numbers (replicate 256 (pos 0)) }
-    ∷ record { defined = of_closing (closing_answer d table_h case_h); paper = of_closing (Closed (record { day = day_of 2 24 true; sold = pos 2; bought = pos 2 })) }
+    ∷ record { defined = of_closing (closing_answer d table_h case_h); paper = of_closing (Ok (record { day = day_of 2 24 true; sold = pos 2; bought = pos 2 })) }
     ∷ []
 
 -- ---- case K goes on from where case B leaves: "K: after B, an hour of zero amounts with thresholds 0: 0, 0, 1."

@@ -1,7 +1,6 @@
 -- A whole day of each length with refused calls in it, so that the theorems on histories speak of something; rule 4 among twelve users; and the lower defaults. Assumes nothing.
-use Rattle.std.specs.Prelude.{◌≡◌, true, List, [], ◌∷◌, ◌++◌, map, ℕ, zero, suc, ◌+◌, ◌-◌, ◌*◌, pos, neg_ℤ, replicate}
+use Rattle.std.specs.Prelude.{◌≡◌, true, Ok, List, [], ◌∷◌, ◌++◌, map, ℕ, zero, suc, ◌+◌, ◌-◌, ◌*◌, pos, neg_ℤ, replicate}
 use Rattle.largest_remainder.specs.Rule.{settled}
-use Rattle.rules.specs.declared.OpenAnswer.TheVariants.{Opened}
 use Rattle.rules.specs.Days.{new_day}
 use Rattle.rules.specs.Thresholds.{lower_default}
 use Rattle.rules.specs.Hours.{Hour, Closing}
@@ -56,7 +55,7 @@ causes s (closing g ∷ calls) = closing_number (closing_answer s.day s.table g)
 
 -- the day is opened, its calls answer so, and at its end both zones have n hours done and are closed; of the L zone's calls, the first user's n times 5 kWh are all settled
 pub record WholeDay (n : ℕ) : Type 0 where
-  pub begins : open_answer (pos 2) (pos n) (replicate 256 (pos 9)) ≡ Opened (new_day (pos 2) (pos n))
+  pub begins : open_answer (pos 2) (pos n) (replicate 256 (pos 9)) ≡ Ok (new_day (pos 2) (pos n))
   pub answers : causes (start n) (whole_day n) ≡ zone_causes n ++ zone_causes n
   pub ends :
       (run (start n) (whole_day n)).day

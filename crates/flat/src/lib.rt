@@ -4,42 +4,37 @@
 #![tactic(auto)]
 
 ghost use Rattle.std.specs.Prelude.{◌≡◌};
-ghost use Rattle.flat.specs.Flat.{flat_open, flat_thresholds, flat_done, flat_hour, flat_closing, flat_file, flat_written};
+ghost use Rattle.flat.specs.Flat.{flat_open, flat_thresholds, settled_hour, flat_done, flat_hour, flat_closing, flat_file, flat_written};
 
-use allocation_file::FileAnswer;
-use allocation_writer::WriteAnswer;
-use record_c::{DayC, ZoneDayC};
-use rules::{ClosingAnswer, HourAnswer, OpenAnswer, Outcome, Side, ThresholdsAnswer};
+use allocation_file::FileRead;
+use allocation_row::FileCause;
+use allocation_writer::WriteCause;
+use record_c::DayC;
+use rules::{Cause, ClosingDone, Day, HourDone, Marks, Outcome, Refusal, Side, Thresholds};
 
 // ---- opening
 
 #[repr(C)]
-#[derive(Clone, Copy)]
+#[derive(Clone, Copy, Default)]
 pub struct OpenC {
     pub cause: u64,
     pub day: DayC,
 }
 
-pub fn flat_open(answer: OpenAnswer) -> OpenC
-    ensures { result ≡ flat_open answer }
-{
-    match answer {
-        OpenAnswer::Refused(cause) => {
-            let none = ZoneDayC {
-                hours: 0,
-                closed: 0,
-            };
-            let day = DayC {
-                users: 0,
-                length: 0,
-                h: none,
-                l: none,
-            };
-            OpenC { cause, day }
-        }
-        OpenAnswer::Opened(opened) => {
-            let day = record_c::day_for_c(opened);
-            OpenC { cause: 0, day }
+impl From<Result<Day, Cause>> for OpenC {
+    ghost from_gives = { λ answer flat. flat ≡ flat_open answer };
+
+    #[tactic(auto, unfolding(rules::specs::Days::new_day, record_c::specs::Records::day_for_c, record_c::specs::Records::zone_for_c))]
+    fn from(answer: Result<Day, Cause>) -> OpenC {
+        match answer {
+            Err(cause) => OpenC {
+                cause: cause.number(),
+                ..OpenC::default()
+            },
+            Ok(opened) => {
+                let day = DayC::from(opened);
+                OpenC { cause: 0, day }
+            }
         }
     }
 }
@@ -47,27 +42,28 @@ pub fn flat_open(answer: OpenAnswer) -> OpenC
 // ---- default thresholds
 
 #[repr(C)]
-#[derive(Clone, Copy)]
+#[derive(Clone, Copy, Default)]
 pub struct ThresholdsC {
     pub cause: u64,
     pub upper: i64,
     pub lower: i64,
 }
 
-pub fn flat_thresholds(answer: ThresholdsAnswer) -> ThresholdsC
-    ensures { result ≡ flat_thresholds answer }
-{
-    match answer {
-        ThresholdsAnswer::Refused(cause) => ThresholdsC {
-            cause,
-            upper: 0,
-            lower: 0,
-        },
-        ThresholdsAnswer::Defaults(thresholds) => ThresholdsC {
-            cause: 0,
-            upper: thresholds.upper,
-            lower: thresholds.lower,
-        },
+impl From<Result<Thresholds, Cause>> for ThresholdsC {
+    ghost from_gives = { λ answer flat. flat ≡ flat_thresholds answer };
+
+    fn from(answer: Result<Thresholds, Cause>) -> ThresholdsC {
+        match answer {
+            Err(cause) => ThresholdsC {
+                cause: cause.number(),
+                ..ThresholdsC::default()
+            },
+            Ok(thresholds) => ThresholdsC {
+                cause: 0,
+                upper: thresholds.upper,
+                lower: thresholds.lower,
+            },
+        }
     }
 }
 
@@ -75,7 +71,7 @@ pub fn flat_thresholds(answer: ThresholdsAnswer) -> ThresholdsC
 
 // The side is 0 within the thresholds, 1 in an excess, 2 in a shortfall.
 #[repr(C)]
-#[derive(Clone, Copy)]
+#[derive(Clone, Copy, Default)]
 pub struct HourC {
     pub cause: u64,
     pub day: DayC,
@@ -86,58 +82,45 @@ pub struct HourC {
     pub number: u64,
 }
 
-fn flat_done(day: DayC, outcome: Outcome) -> HourC
-    ensures { result ≡ flat_done day outcome }
-{
-    match outcome {
-        Outcome::Within => HourC {
+impl HourC {
+    // The answer for the record that was given: a refusal gives that record back as it is, an odd mark in it too.
+    pub fn of(given: DayC, answer: Result<HourDone, Refusal>) -> HourC
+        ensures { result ≡ flat_hour given answer }
+    {
+        match answer {
+            Err(refusal) => HourC {
+                cause: refusal.cause.number(),
+                day: given,
+                ..HourC::default()
+            },
+            Ok(done) => HourC::done(done.day.into(), done.outcome),
+        }
+    }
+
+    fn done(day: DayC, outcome: Outcome) -> HourC
+        ensures { result ≡ flat_done day outcome }
+    {
+        match outcome {
+            Outcome::Within => HourC {
+                day,
+                ..HourC::default()
+            },
+            Outcome::Settled(Side::Excess(total), marks) => HourC::settled(day, 1, total, marks),
+            Outcome::Settled(Side::Shortfall(total), marks) => HourC::settled(day, 2, total, marks),
+        }
+    }
+
+    fn settled(day: DayC, side: u64, total: i64, marks: Marks) -> HourC
+        ensures { result ≡ settled_hour day side total marks }
+    {
+        HourC {
             cause: 0,
             day,
-            side: 0,
-            total: 0,
-            first: 0,
-            second: 0,
-            number: 0,
-        },
-        Outcome::Settled(side, marks) => match side {
-            Side::Excess(total) => HourC {
-                cause: 0,
-                day,
-                side: 1,
-                total,
-                first: marks.first,
-                second: marks.second,
-                number: marks.number,
-            },
-            Side::Shortfall(total) => HourC {
-                cause: 0,
-                day,
-                side: 2,
-                total,
-                first: marks.first,
-                second: marks.second,
-                number: marks.number,
-            },
-        },
-    }
-}
-
-pub fn flat_hour(day: DayC, answer: HourAnswer) -> HourC
-    ensures { result ≡ flat_hour day answer }
-{
-    match answer {
-        HourAnswer::Refused(refusal) => HourC {
-            cause: refusal.number,
-            day,
-            side: 0,
-            total: 0,
-            first: 0,
-            second: 0,
-            number: 0,
-        },
-        HourAnswer::Done(done) => {
-            let outcome = done.outcome;
-            flat_done(record_c::day_for_c(done.day), outcome)
+            side,
+            total,
+            first: marks.first,
+            second: marks.second,
+            number: marks.number,
         }
     }
 }
@@ -145,7 +128,7 @@ pub fn flat_hour(day: DayC, answer: HourAnswer) -> HourC
 // ---- a closing
 
 #[repr(C)]
-#[derive(Clone, Copy)]
+#[derive(Clone, Copy, Default)]
 pub struct ClosingC {
     pub cause: u64,
     pub day: DayC,
@@ -153,29 +136,31 @@ pub struct ClosingC {
     pub bought: i64,
 }
 
-pub fn flat_closing(day: DayC, answer: ClosingAnswer) -> ClosingC
-    ensures { result ≡ flat_closing day answer }
-{
-    match answer {
-        ClosingAnswer::Refused(refusal) => ClosingC {
-            cause: refusal.number,
-            day,
-            sold: 0,
-            bought: 0,
-        },
-        ClosingAnswer::Closed(done) => ClosingC {
-            cause: 0,
-            day: record_c::day_for_c(done.day),
-            sold: done.sold,
-            bought: done.bought,
-        },
+impl ClosingC {
+    // As of an hour.
+    pub fn of(given: DayC, answer: Result<ClosingDone, Refusal>) -> ClosingC
+        ensures { result ≡ flat_closing given answer }
+    {
+        match answer {
+            Err(refusal) => ClosingC {
+                cause: refusal.cause.number(),
+                day: given,
+                ..ClosingC::default()
+            },
+            Ok(done) => ClosingC {
+                cause: 0,
+                day: done.day.into(),
+                sold: done.sold,
+                bought: done.bought,
+            },
+        }
     }
 }
 
 // ---- the hour's file
 
 #[repr(C)]
-#[derive(Clone, Copy)]
+#[derive(Clone, Copy, Default)]
 pub struct FileC {
     pub cause: u64,
     pub hour: i64,
@@ -183,39 +168,44 @@ pub struct FileC {
     pub lines: i64,
 }
 
-pub fn flat_file(answer: FileAnswer) -> FileC
-    ensures { result ≡ flat_file answer }
-{
-    match answer {
-        FileAnswer::Refused(cause) => FileC {
-            cause,
-            hour: 0,
-            zone: 0,
-            lines: 0,
-        },
-        FileAnswer::Read(file) => FileC {
-            cause: 0,
-            hour: file.hour,
-            zone: file.zone,
-            lines: file.lines,
-        },
+impl From<Result<FileRead, FileCause>> for FileC {
+    ghost from_gives = { λ answer flat. flat ≡ flat_file answer };
+
+    fn from(answer: Result<FileRead, FileCause>) -> FileC {
+        match answer {
+            Err(cause) => FileC {
+                cause: cause.number(),
+                ..FileC::default()
+            },
+            Ok(file) => FileC {
+                cause: 0,
+                hour: file.hour,
+                zone: file.zone,
+                lines: file.lines,
+            },
+        }
     }
 }
 
 // ---- the hour's file, written
 
 #[repr(C)]
-#[derive(Clone, Copy)]
+#[derive(Clone, Copy, Default)]
 pub struct WrittenC {
     pub cause: u64,
     pub bytes: i64,
 }
 
-pub fn flat_written(answer: WriteAnswer) -> WrittenC
-    ensures { result ≡ flat_written answer }
-{
-    match answer {
-        WriteAnswer::Refused(cause) => WrittenC { cause, bytes: 0 },
-        WriteAnswer::Written(bytes) => WrittenC { cause: 0, bytes },
+impl From<Result<i64, WriteCause>> for WrittenC {
+    ghost from_gives = { λ answer flat. flat ≡ flat_written answer };
+
+    fn from(answer: Result<i64, WriteCause>) -> WrittenC {
+        match answer {
+            Err(cause) => WrittenC {
+                cause: cause.number(),
+                bytes: 0,
+            },
+            Ok(bytes) => WrittenC { cause: 0, bytes },
+        }
     }
 }
