@@ -8,27 +8,29 @@ use lib.Dec.{lit≤}
 use lib.IntN.{ℤ, pos, ◌+ℤ◌, ◌-ℤ◌}
 use lib.ListN.{length, get_or, take, drop, length-take, length-drop}
 use lib.Seq.{ext_get_or, take-take}
+use Rattle.std.specs.Prelude.{Ok, Err}
 use Rattle.integers.specs.Ranges.{is_zero}
 use Rattle.integers.proofs.Linear.{lin2, diffs, linear}
 use Rattle.rules.specs.Limits.{users_most}
 use Rattle.rules.specs.declared.Day.{Day}
-use Rattle.rules.specs.declared.HourAnswer.{HourAnswer}
+use Rattle.rules.specs.declared.Refusal.{Refusal}
+use Rattle.rules.specs.declared.HourDone.{HourDone}
 use Rattle.rules.specs.Days.{users, first_place, part}
 use Rattle.rules.specs.Hours.{Hour, before}
 use Rattle.rules.specs.Market.{quantities, after}
 use Rattle.rules.specs.Causes.{hour_cause, before_fit}
-use Rattle.rules.specs.Answers.{hour_imbalance, hour_answer, hour_table, hour_quantity, hour_money, hour_number}
-use Rattle.rules.proofs.Refusing.{some_cause, by_none, by_some}
-use Rattle.rules.proofs.Accepted.{hour_number_lem, hour_sound, hour_lengths}
-use Rattle.rules.proofs.Guarantees.{accepted_if_fit}
+use Rattle.rules.specs.Answers.{hour_imbalance, hour_answer, hour_table, hour_quantity, hour_money}
+use Rattle.rules.proofs.Refusing.{by_none, with_day_none}
+use Rattle.rules.proofs.Accepted.{hour_fit_lem, hour_sound, hour_lengths}
 use Rattle.rules.proofs.Small.{positions_small}
 use Rattle.rules.proofs.Conserving.{length_before, positions_left}
 use Rattle.rules.proofs.Settling.{length-quantities, after_at}
-use Rattle.report.specs.Text.{refused_line, hour_text}
+use Rattle.report.specs.Text.{hour_text}
 use Rattle.text.specs.Puts.{Put}
 use Rattle.hour_text.specs.Lent.{sums, Adds, afters, settled_text, Settled, TextRoom}
-use Rattle.hour_text.specs.Opened.{unless_refused, settled}
+use Rattle.hour_text.specs.Opened.{settled}
 use Rattle.hour_text.proofs.Adding.{length-sums, sums_at}
+use Rattle.hour_text.proofs.Opening.{with_day_some}
 
 -- ---- the users' places of the table
 pub first_few : (zone : ℤ) → first_place zone ≤ 128
@@ -63,15 +65,15 @@ regained : (q b : ℤ) → q +ℤ (b -ℤ q) ≡ b
 regained = lin2 _ (λ a b c d. simp diffs (omega linear))
 
 module _ (d : Day) (t : List ℤ) (g : Hour) where
-  -- the number of the answer is the cause
-  pub cause_is : {r : HourAnswer} {n : ℕ} → r ≡ hour_answer d t g → n ≡ hour_number r → n ≡ hour_cause d t g
-  cause_is e f = f ∙ ap hour_number e ∙ hour_number_lem d t g
+  pub hour_refused : {r : Refusal} → Err r ≡ hour_answer d t g → settled d t g ≡ Err r.cause
+  unfolding hour_answer settled
+  hour_refused e = rw (with_day_some d _ _ (sym e)) refl
 
-  pub refused_text_lem : {n : ℕ} → n ≡ hour_cause d t g → (n ≡ 0 → ⊥) → settled d t g ≡ refused_line n
-  unfolding settled unless_refused
-  refused_text_lem e h = by_some _ _ _ (some_cause e h) ∙ ap refused_line (sym e)
+  pub hour_done : {r : HourDone} → Ok r ≡ hour_answer d t g → hour_cause d t g ≡ Ok tt
+  unfolding hour_answer
+  hour_done e = (with_day_none d (sym e)).0
 
-  module _ (k : hour_cause d t g ≡ 0) where
+  module _ (k : hour_cause d t g ≡ Ok tt) where
     -- the quantities and the positions after add up to the positions before
     sums_are : sums (quantities (hour_imbalance d t g) (before d t g)) (after (hour_imbalance d t g) (before d t g)) ≡ before d t g
     sums_are =
@@ -98,16 +100,17 @@ module _ (d : Day) (t : List ℤ) (g : Hour) where
       sums-left : sums q' (afters g.terms.zone (length q') t') ≡ before d t g
       sums-left = rw (left, quantity_is) sums_are
 
-      pub done_text : settled d t g ≡ settled_text g.terms.zone t' q' m'
-      unfolding settled unless_refused settled_text
-      done_text = by_none _ _ _ k ∙ rw (sums-left, left, ← eq, ← em) (ap (hour_text (before d t g) q' m') (positions_left d t g k))
+      pub done_text : settled d t g ≡ Ok (settled_text g.terms.zone t' q' m')
+      unfolding settled settled_text
+      done_text =
+          rw (k, sums-left, left, ← eq, ← em, positions_left d t g k) refl
 
       pub done_asks : {out : List ℕ} {b : List ℤ} → TextRoom out b g.entry → length t' ≡ length t
           → length m' ≡ length g.money → Settled out g.terms.zone t' q' m' b
       unfolding before_fit
       done_asks r lt lm =
           let s = hour_sound d t g k in
-          let f = (accepted_if_fit.0 d t g).0 (hour_number_lem d t g ∙ k) in
+          let f = hour_fit_lem d t g k in
           let l = hour_lengths d t g f.lengths in
           record {
             room = r.room;

@@ -1,8 +1,11 @@
--- What the program's functions ask of the lists that they are lent. Assumes nothing.
-use Rattle.std.specs.Prelude.{◌≡◌, List, ℕ, ◌+◌, ◌*◌, ◌≤◌, ℤ, pos, ◌+ℤ◌, length, get_or, take}
+-- What the program's functions ask of the lists that they are lent, and what they leave. Assumes nothing.
+use Rattle.std.specs.Prelude.{◌≡◌, List, ℕ, ◌+◌, ◌*◌, ◌≤◌, ℤ, pos, ◌+ℤ◌, length, get_or, take, Result, Ok, Err, IsOkAnd}
 use Rattle.integers.specs.Lists.{tabulate, AtMost}
 use Rattle.rules.specs.Limits.{users_most, position_most}
+use Rattle.rules.specs.declared.Amounts.{Amounts}
+use Rattle.rules.specs.declared.Cause.{Cause}
 use Rattle.rules.specs.Days.{part}
+use Rattle.text.specs.Puts.{Put}
 use Rattle.report.specs.Text.{hour_text}
 
 -- the sums of two lists, place by place
@@ -45,10 +48,15 @@ pub record TextRoom (out : List ℕ) (before entry : List ℤ) : Type 0 where
   pub users : length entry ≤ users_most
 
 -- room for the longest text, and four lists with a place for each user
-pub record ReadLists (out : List ℕ) (n : ℕ) (entries exits titles poolings : List ℤ) : Type 0 where
+pub record ReadLists (out : List ℕ) (n : ℕ) (a : Amounts) : Type 0 where
   pub room : text_most ≤ length out
   pub users : n ≤ users_most
-  pub entry : n ≤ length entries
-  pub exit : n ≤ length exits
-  pub title : n ≤ length titles
-  pub pooling : n ≤ length poolings
+  pub entry : n ≤ length a.entries.now
+  pub exit : n ≤ length a.exits.now
+  pub title : n ≤ length a.titles.now
+  pub pooling : n ≤ length a.poolings.now
+
+-- what a function leaves that may be refused: the text, or the cause and the bytes as they were
+abbrev pub Writes : Result (List ℕ) Cause → List ℕ → List ℕ → Result ℕ Cause → Type 0
+Writes text out out' (Ok r) = IsOkAnd text (λ t. Put out 0 t out' r)
+Writes text out out' (Err k) = (text ≡ Err k) × (out' ≡ out)

@@ -2,16 +2,15 @@
 
 #![tactic(auto)]
 
-ghost use Rattle.std.specs.Prelude.{◌≡◌, take};
+ghost use Rattle.std.specs.Prelude.{◌≡◌, length, take};
 ghost use Rattle.rules.specs.Hours.{hour_given};
-ghost use Rattle.rules.specs.Answers.{hour_number};
 ghost use Rattle.text.specs.Puts.{Put};
-ghost use Rattle.hour_text.specs.Lent.{sums, Adds, Settled, settled_text, TextRoom, ReadLists};
+ghost use Rattle.hour_text.specs.Lent.{sums, Adds, Settled, settled_text, TextRoom, ReadLists, Writes};
 ghost use Rattle.hour_text.specs.Opened.{settled, terms_of, with_defaults, opened, opened_new};
 
 use gas_day::{default_thresholds, open, settle_hour};
 use report::{write_hour, write_refused};
-use rules::{Day, HourAnswer, HourTerms, OpenAnswer, Thresholds, ThresholdsAnswer};
+use rules::{Amounts, Cause, Day, HourTerms, Thresholds};
 
 // January, whose default thresholds apply.
 const MONTH: i64 = 1;
@@ -25,10 +24,8 @@ fn add_quantities(quantity: &[i64], after: &[i64], before: &mut [i64])
     requires { Adds quantity.now after.now before.old }
     ensures { before.new ≡ sums quantity.now after.now }
 {
-    let mut i: usize = 0;
-    while i < quantity.len() {
+    for i in 0..quantity.len() {
         before[i] = quantity[i] + after[i];
-        i += 1;
     }
 }
 
@@ -53,47 +50,32 @@ fn settled_text(
     write_hour(out, before, quantity, money, after)
 }
 
-// The number of a refusal, and 0 for an hour that is settled.
-fn cause_of(answer: HourAnswer) -> u64
-    ensures { result ≡ hour_number answer }
-{
-    match answer {
-        HourAnswer::Refused(refusal) => refusal.number,
-        HourAnswer::Done(_) => 0,
-    }
-}
-
-// Settles the hour of an open day.
+// Settles the hour of an open day, and writes its text. The lists that it fills stay parameters of their own, here and below: a struct of them could not say that
+// the lists which come back are those that were lent.
 fn hour_text(
     out: &mut [u8],
     day: Day,
     table: &mut [i64],
     terms: HourTerms,
-    entry: &[i64],
-    exit: &[i64],
-    title: &[i64],
-    pooling: &[i64],
+    amounts: &Amounts,
     quantity: &mut [i64],
     money: &mut [i64],
     scratch: &mut [u64],
     before: &mut [i64],
-) -> usize
-    requires { TextRoom out.old before.old entry.now }
-    ensures { Put out.old 0
-        (settled day table.old (hour_given terms
-        entry.now exit.now title.now pooling.now
-        quantity.old money.old scratch.old))
-        out.new result }
+) -> Result<usize, Cause>
+    requires { TextRoom out.old before.old amounts.now.entries.now }
+    ensures { Writes
+        (settled day table.old
+        (hour_given terms amounts.now quantity.old money.old scratch.old))
+        out.old out.new result }
 {
-    let number = cause_of(settle_hour(
-        day, table, terms, entry, exit, title, pooling, quantity, money, scratch,
-    ));
-    if number != 0 {
-        return write_refused(out, number);
+    match settle_hour(day, table, terms, amounts, quantity, money, scratch) {
+        Err(refusal) => Err(refusal.cause),
+        Ok(_) => Ok(settled_text(out, terms.zone, table, quantity, money, before)),
     }
-    settled_text(out, terms.zone, table, quantity, money, before)
 }
 
+#[tactic(auto, unfolding(crate::specs::Opened::terms_of))]
 fn terms_of(hour: i64, zone: i64, thresholds: Thresholds) -> HourTerms
     ensures { result ≡ terms_of hour zone thresholds }
 {
@@ -114,39 +96,21 @@ fn january_text(
     hour: i64,
     zone: i64,
     table: &mut [i64],
-    entry: &[i64],
-    exit: &[i64],
-    title: &[i64],
-    pooling: &[i64],
+    amounts: &Amounts,
     quantity: &mut [i64],
     money: &mut [i64],
     scratch: &mut [u64],
     before: &mut [i64],
-) -> usize
-    requires { TextRoom out.old before.old entry.now }
-    ensures { Put out.old 0
+) -> Result<usize, Cause>
+    requires { TextRoom out.old before.old amounts.now.entries.now }
+    ensures { Writes
         (with_defaults day table.old hour zone
-        entry.now exit.now title.now pooling.now
-        quantity.old money.old scratch.old)
-        out.new result }
+        (λ terms. hour_given terms amounts.now quantity.old money.old scratch.old))
+        out.old out.new result }
 {
-    let thresholds = match default_thresholds(MONTH, zone) {
-        ThresholdsAnswer::Refused(number) => return write_refused(out, number),
-        ThresholdsAnswer::Defaults(thresholds) => thresholds,
-    };
+    let terms = terms_of(hour, zone, default_thresholds(MONTH, zone)?);
     hour_text(
-        out,
-        day,
-        table,
-        terms_of(hour, zone, thresholds),
-        entry,
-        exit,
-        title,
-        pooling,
-        quantity,
-        money,
-        scratch,
-        before,
+        out, day, table, terms, amounts, quantity, money, scratch, before,
     )
 }
 
@@ -156,67 +120,57 @@ fn day_text(
     hour: i64,
     zone: i64,
     table: &mut [i64],
-    entry: &[i64],
-    exit: &[i64],
-    title: &[i64],
-    pooling: &[i64],
+    amounts: &Amounts,
     quantity: &mut [i64],
     money: &mut [i64],
     scratch: &mut [u64],
     before: &mut [i64],
-) -> usize
-    requires { TextRoom out.old before.old entry.now }
-    ensures { Put out.old 0
-        (opened hour zone table.old
-        entry.now exit.now title.now pooling.now
-        quantity.old money.old scratch.old)
-        out.new result }
+) -> Result<usize, Cause>
+    requires { TextRoom out.old before.old amounts.now.entries.now }
+    ensures { Writes
+        (opened hour zone table.old (length amounts.now.entries.now)
+        (λ terms. hour_given terms amounts.now quantity.old money.old scratch.old))
+        out.old out.new result }
 {
-    let users = integers::signed(entry.len() as u64);
-    let day = match open(users, Day::LENGTH_USUAL, table) {
-        OpenAnswer::Refused(number) => return write_refused(out, number),
-        OpenAnswer::Opened(day) => day,
-    };
+    let day = open(amounts.entries.len() as i64, Day::LENGTH_USUAL, table)?;
     january_text(
-        out, day, hour, zone, table, entry, exit, title, pooling, quantity, money, scratch, before,
+        out, day, hour, zone, table, amounts, quantity, money, scratch, before,
     )
 }
 
-// The text of a file that is read: the amounts stand at the first `n` places of the four lists.
-pub fn amounts_text(
-    out: &mut [u8],
-    hour: i64,
-    zone: i64,
-    n: usize,
-    entries: &[i64],
-    exits: &[i64],
-    titles: &[i64],
-    poolings: &[i64],
-) -> usize
-    requires { ReadLists out.old n entries.now exits.now titles.now poolings.now }
+// The text of a file that is read: the amounts stand at the first `n` places of the four lists, which are cut here, where the contract bounds `n` once for all.
+pub fn amounts_text(out: &mut [u8], hour: i64, zone: i64, n: usize, amounts: &Amounts) -> usize
+    requires { ReadLists out.old n amounts.now }
     ensures { Put out.old 0
         (opened_new hour zone
-        (take n entries.now) (take n exits.now)
-        (take n titles.now) (take n poolings.now))
+        (take n amounts.now.entries.now) (take n amounts.now.exits.now)
+        (take n amounts.now.titles.now) (take n amounts.now.poolings.now))
         out.new result }
 {
+    let amounts = Amounts {
+        entries: &amounts.entries[..n],
+        exits: &amounts.exits[..n],
+        titles: &amounts.titles[..n],
+        poolings: &amounts.poolings[..n],
+    };
     let mut table = [0i64; 256];
     let mut quantity = [0i64; 128];
     let mut money = [0i64; 128];
     let mut scratch = [0u64; 128];
     let mut before = [0i64; 128];
-    day_text(
+    let written = day_text(
         out,
         hour,
         zone,
         &mut table,
-        &entries[..n],
-        &exits[..n],
-        &titles[..n],
-        &poolings[..n],
+        &amounts,
         &mut quantity[..n],
         &mut money[..n],
         &mut scratch[..n],
         &mut before[..n],
-    )
+    );
+    match written {
+        Ok(end) => end,
+        Err(cause) => write_refused(out, cause.number()),
+    }
 }

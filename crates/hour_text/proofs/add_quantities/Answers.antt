@@ -23,15 +23,13 @@ loop-i-preserved c =
     let q = c.args.quantity.now in
     let a = c.args.after.now in
     let first = back (get_or q l.i (pos 0)) (search rules) in
-    let second = back (get_or a l.i (pos 0)) (search rules) in (
-      search rules,
-      written_next (sums q a) c.args.before.now l.before l.i l.invariant.1 (length-sums q a ∙ sym c.requires.outs) (pos 0) _ (omega (arith, c.requires.outs))
-          (read (overflow_add-before c) ∙ ap₂ (λ (x y : ℤ). x +ℤ y) first second ∙ sym (sums_at q a l.i (search rules))),
-    )
+    let second = back (get_or a l.i (pos 0)) (search rules) in
+    written_next (sums q a) c.args.before.now l.before l.i l.invariant (length-sums q a ∙ sym c.requires.outs) (pos 0) _ (omega (arith, c.requires.outs))
+    (read (overflow_add-before c) ∙ ap₂ (λ (x y : ℤ). x +ℤ y) first second ∙ sym (sums_at q a l.i (search rules)))
 
 pub returns : goal.returns
 returns c =
     let l = c.loop-i in
     let a = c.args in
     let long = length-sums a.quantity.now a.after.now ∙ sym c.requires.outs in
-    written_all _ a.before.now l.before l.i l.invariant.1 long (omega (arith, c.requires.outs))
+    written_all _ a.before.now l.before l.i l.invariant long (omega (arith, c.requires.outs))

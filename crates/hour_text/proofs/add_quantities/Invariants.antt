@@ -1,12 +1,7 @@
 -- Each turn writes a position before. Assumes nothing.
-use Prim.Native.Nat.{◌-◌, ◌≤◌}
-use lib.ListN.{length}
 use Rattle.integers.proofs.Passes.{Written}
 use Rattle.hour_text.specs.Lent.{sums}
 use Rattle.hour_text.proofs.add_quantities.Given as goal
 
 abbrev pub invariant-loop-i : goal.invariant-loop-i
-invariant-loop-i l = (l.i ≤ length l.quantity) × Written (sums l.quantity l.after) l.initial.before l.before l.i
-
-abbrev pub decreases-loop-i : goal.decreases-loop-i
-decreases-loop-i l = length l.quantity - l.i
+invariant-loop-i l = Written (sums l.quantity l.after) l.initial.before l.before l.i

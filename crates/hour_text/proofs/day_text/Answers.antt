@@ -1,26 +1,28 @@
 -- By the answer to the opening. Assumes nothing.
-use mathlib.Core.Path.{◌∙◌}
+use mathlib.Core.Path.{◌≡◌, refl}
+use borrow.Author.Rules.{rules}
 use lib.IntN.{pos}
 use lib.ListN.{length}
-use Rattle.integers.proofs.Machine.{read, back}
+use mir.Syntax.{w64}
+use mir.Val.{to_z}
+use Rattle.integers.proofs.Machine.{read}
 use Rattle.hour_text.specs.Opened.{program_length, opened}
-use Rattle.hour_text.proofs.Opening.{accepted_text, open_refused, open_none, open_day}
+use Rattle.hour_text.proofs.Opening.{open_refused, open_done, refused_writes}
 use Rattle.hour_text.proofs.day_text.Goals as goal
 
-pub returns-in-Refused : goal.returns-in-Refused
+pub returns-in_err-day : goal.returns-in_err-day
 unfolding opened
-returns-in-Refused c =
-    let counted = back _ c.signed-users.type_inv ∙ c.signed-users.ensures in
-    let a = c.args in
-    rw (open_refused (pos (length a.entry.now)) program_length a.table.now _ (rw counted at c.in-Refused.ensures.answer))
-    c.write_refused.ensures
+returns-in_err-day c =
+    let n = length c.args.amounts.now.entries.now in
+    let users : to_z w64 n ≡ pos n = search rules in
+    let k = open_refused (pos n) program_length c.args.table.now (rw users at c.in_err-day.ensures.answer) in
+    refused_writes c.args.out.now _ c.from_residual.ensures.1 (rw k refl)
 
 pub returns : goal.returns
 unfolding opened
 returns c =
-    let counted = back _ c.signed-users.type_inv ∙ c.signed-users.ensures in
-    let n = pos (length c.args.entry.now) in
-    let e = rw counted at c.in-Opened.ensures.answer in
-    let t = rw counted at c.«open».ensures.table in
-    rw (accepted_text _ (open_none n program_length c.args.table.now e))
-    (rw (read c.ranges.hour, read c.ranges.zone, open_day n program_length c.args.table.now e, t) at c.january_text.ensures)
+    let n = length c.args.amounts.now.entries.now in
+    let users : to_z w64 n ≡ pos n = search rules in
+    let p = open_done (pos n) program_length c.args.table.now (rw users at c.in_ok-day.ensures.answer) in
+    let t = rw users at c.«open».ensures.table in
+    rw p.0 (rw (read c.ranges.hour, read c.ranges.zone, p.1, t) at c.january_text.ensures)
