@@ -15,7 +15,8 @@ use Rattle.rules.specs.Causes.{open_cause, thresholds_cause}
 use Rattle.rules.specs.Answers.{with_day, open_answer, thresholds_answer}
 use Rattle.rules.proofs.Refusing.{not_refused, then_none}
 use Rattle.report.specs.Text.{refused_line}
-use Rattle.text.specs.Puts.{Put}
+use Rattle.text.specs.declared.writing.Writer.{Writer}
+use Rattle.text.specs.Puts.{Wrote}
 use Rattle.hour_text.specs.Lent.{Writes}
 use Rattle.hour_text.specs.Opened.{unless_refused}
 
@@ -51,19 +52,18 @@ module _ (month zone : ℤ) where
   thresholds_done e = let p = then_none (sym e) in (p.0, cc)
 
 -- a refusal that a call hands on
-pub refused_writes : {text : Result (List ℕ) Cause} {k : Cause} (out : List ℕ) (r : Result ℕ Cause)
-    → IsErrAnd r (λ l. l ≡ k) → text ≡ Err k → Writes text out out r
-refused_writes out (Ok n) h e = absurd h
-refused_writes out (Err l) h e = (rw h e, refl)
+pub refused_writes : {text : Result (List ℕ) Cause} {k : Cause} (w : Writer) (r : Result Unit Cause)
+    → IsErrAnd r (λ l. l ≡ k) → text ≡ Err k → Writes text w w r
+refused_writes w (Ok u) h e = absurd h
+refused_writes w (Err l) h e = (rw h e, refl)
 
 -- the text that is written, or the line of its cause
-pub text_put : (text : Result (List ℕ) Cause) {out out' : List ℕ} {r : ℕ}
-    → IsOkAnd text (λ t. Put out 0 t out' r) → Put out 0 (unless_refused text) out' r
+pub text_wrote : (text : Result (List ℕ) Cause) {w w' : Writer} → IsOkAnd text (Wrote w w') → Wrote w w' (unless_refused text)
 unfolding unless_refused
-text_put (Ok t) p = p
-text_put (Err k) p = absurd p
+text_wrote (Ok t) p = p
+text_wrote (Err k) p = absurd p
 
-pub line_put : {text : Result (List ℕ) Cause} {k : Cause} {out out₀ out' : List ℕ} {r : ℕ}
-    → text ≡ Err k → out ≡ out₀ → Put out 0 (refused_line (number k)) out' r → Put out₀ 0 (unless_refused text) out' r
+pub line_wrote : {text : Result (List ℕ) Cause} {k : Cause} {w w₀ w' : Writer}
+    → text ≡ Err k → w ≡ w₀ → Wrote w w' (refused_line (number k)) → Wrote w₀ w' (unless_refused text)
 unfolding unless_refused
-line_put e f p = rw (e, ← f) p
+line_wrote e f p = rw (e, ← f) p

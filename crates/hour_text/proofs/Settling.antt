@@ -26,7 +26,8 @@ use Rattle.rules.proofs.Small.{positions_small}
 use Rattle.rules.proofs.Conserving.{length_before, positions_left}
 use Rattle.rules.proofs.Settling.{length-quantities, after_at}
 use Rattle.report.specs.Text.{hour_text}
-use Rattle.text.specs.Puts.{Put}
+use Rattle.text.specs.declared.writing.Writer.{Writer}
+use Rattle.text.specs.Puts.{Wrote}
 use Rattle.hour_text.specs.Lent.{sums, Adds, afters, settled_text, Settled, TextRoom}
 use Rattle.hour_text.specs.Opened.{settled}
 use Rattle.hour_text.proofs.Adding.{length-sums, sums_at}
@@ -48,17 +49,17 @@ after_is zone table start n e h =
     let k : start + n - start ≡ n = omega arith in
     rw (k, e) (sym (take-take n 128 (drop (first_place zone) table) h))
 
-pub adds_of : {out : List ℕ} {zone : ℤ} {table q m b a : List ℤ} → Settled out zone table q m b → a ≡ afters zone (length q) table → Adds q a b
+pub adds_of : {w : Writer} {zone : ℤ} {table q m b a : List ℤ} → Settled w zone table q m b → a ≡ afters zone (length q) table → Adds q a b
 unfolding afters part
 adds_of {zone = zone} {table = table} {q = q} s e =
     let l : length (take (length q) (take 128 (drop (first_place zone) table))) ≡ length q =
     simp (length-take, length-drop) (omega (arith, s.users, s.places, first_few zone)) in
     record { seconds = ap length e ∙ l; outs = s.befores; small = rw e s.small }
 
-pub settled_put : (zone : ℤ) (table q m a b : List ℤ) {out out' : List ℕ} {r : ℕ}
-    → a ≡ afters zone (length q) table → b ≡ sums q a → Put out 0 (hour_text b q m a) out' r → Put out 0 (settled_text zone table q m) out' r
+pub settled_wrote : (zone : ℤ) (table q m a b : List ℤ) {w w' : Writer}
+    → a ≡ afters zone (length q) table → b ≡ sums q a → Wrote w w' (hour_text b q m a) → Wrote w w' (settled_text zone table q m)
 unfolding settled_text
-settled_put zone table q m a b e f p = rw (← e, ← f) p
+settled_wrote zone table q m a b e f p = rw (← e, ← f) p
 
 -- ---- an hour by its answer
 regained : (q b : ℤ) → q +ℤ (b -ℤ q) ≡ b
@@ -105,8 +106,8 @@ module _ (d : Day) (t : List ℤ) (g : Hour) where
       done_text =
           rw (k, sums-left, left, ← eq, ← em, positions_left d t g k) refl
 
-      pub done_asks : {out : List ℕ} {b : List ℤ} → TextRoom out b g.entry → length t' ≡ length t
-          → length m' ≡ length g.money → Settled out g.terms.zone t' q' m' b
+      pub done_asks : {w : Writer} {b : List ℤ} → TextRoom w b g.entry → length t' ≡ length t
+          → length m' ≡ length g.money → Settled w g.terms.zone t' q' m' b
       unfolding before_fit
       done_asks r lt lm =
           let s = hour_sound d t g k in

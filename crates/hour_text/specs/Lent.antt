@@ -5,7 +5,8 @@ use Rattle.rules.specs.Limits.{users_most, position_most}
 use Rattle.rules.specs.declared.Amounts.{Amounts}
 use Rattle.rules.specs.declared.Cause.{Cause}
 use Rattle.rules.specs.Days.{part}
-use Rattle.text.specs.Puts.{Put}
+use Rattle.text.specs.declared.writing.Writer.{Writer}
+use Rattle.text.specs.Puts.{Room, Wrote}
 use Rattle.report.specs.Text.{hour_text}
 
 -- the sums of two lists, place by place
@@ -33,8 +34,8 @@ abbrev pub text_most : ℕ
 text_most = 24 + users_most * 106
 
 -- room for the longest text, the whole table, lists of one length of no more users than a day has, and sums that are positions
-pub record Settled (out : List ℕ) (zone : ℤ) (table quantity money before : List ℤ) : Type 0 where
-  pub room : text_most ≤ length out
+pub record Settled (w : Writer) (zone : ℤ) (table quantity money before : List ℤ) : Type 0 where
+  pub room : Room w text_most
   pub places : length table ≡ 256
   pub users : length quantity ≤ users_most
   pub moneys : length money ≡ length quantity
@@ -42,21 +43,21 @@ pub record Settled (out : List ℕ) (zone : ℤ) (table quantity money before : 
   pub small : AtMost position_most (sums quantity (afters zone (length quantity) table))
 
 -- room for the longest text, and a list of positions before settlement as long as the users' lists
-pub record TextRoom (out : List ℕ) (before entry : List ℤ) : Type 0 where
-  pub room : text_most ≤ length out
+pub record TextRoom (w : Writer) (before entry : List ℤ) : Type 0 where
+  pub room : Room w text_most
   pub befores : length before ≡ length entry
   pub users : length entry ≤ users_most
 
 -- room for the longest text, and four lists with a place for each user
-pub record ReadLists (out : List ℕ) (n : ℕ) (a : Amounts) : Type 0 where
-  pub room : text_most ≤ length out
+pub record ReadLists (w : Writer) (n : ℕ) (a : Amounts) : Type 0 where
+  pub room : Room w text_most
   pub users : n ≤ users_most
   pub entry : n ≤ length a.entries.now
   pub exit : n ≤ length a.exits.now
   pub title : n ≤ length a.titles.now
   pub pooling : n ≤ length a.poolings.now
 
--- what a function leaves that may be refused: the text, or the cause and the bytes as they were
-abbrev pub Writes : Result (List ℕ) Cause → List ℕ → List ℕ → Result ℕ Cause → Type 0
-Writes text out out' (Ok r) = IsOkAnd text (λ t. Put out 0 t out' r)
-Writes text out out' (Err k) = (text ≡ Err k) × (out' ≡ out)
+-- what a function leaves that may be refused: the text, or the cause and the writer as it was
+abbrev pub Writes : Result (List ℕ) Cause → Writer → Writer → Result Unit Cause → Type 0
+Writes text w w' (Ok u) = IsOkAnd text (Wrote w w')
+Writes text w w' (Err k) = (text ≡ Err k) × (w' ≡ w)

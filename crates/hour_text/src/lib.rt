@@ -4,13 +4,14 @@
 
 ghost use Rattle.std.specs.Prelude.{◌≡◌, length, take};
 ghost use Rattle.rules.specs.Hours.{hour_given};
-ghost use Rattle.text.specs.Puts.{Put};
+ghost use Rattle.text.specs.Puts.{Wrote};
 ghost use Rattle.hour_text.specs.Lent.{sums, Adds, Settled, settled_text, TextRoom, ReadLists, Writes};
 ghost use Rattle.hour_text.specs.Opened.{settled, terms_of, with_defaults, opened, opened_new};
 
 use gas_day::{default_thresholds, open, settle_hour};
 use report::{write_hour, write_refused};
 use rules::{Amounts, Cause, Day, HourTerms, Thresholds};
+use text::writing::Writer;
 
 // January, whose default thresholds apply.
 const MONTH: i64 = 1;
@@ -31,29 +32,26 @@ fn add_quantities(quantity: &[i64], after: &[i64], before: &mut [i64])
 
 // The text of an hour that is settled.
 fn settled_text(
-    out: &mut [u8],
+    writer: &mut Writer,
     zone: i64,
     table: &[i64],
     quantity: &[i64],
     money: &[i64],
     before: &mut [i64],
-) -> usize
-    requires { Settled out.old zone table.now quantity.now money.now before.old }
-    ensures { Put out.old 0
-        (settled_text zone table.now quantity.now money.now)
-        out.new result }
+)
+    requires { Settled writer.old zone table.now quantity.now money.now before.old }
+    ensures { Wrote writer.old writer.new (settled_text zone table.now quantity.now money.now) }
 {
     let start = places::first_place(zone);
     let end = start + quantity.len();
     let after = &table[start..end];
     add_quantities(quantity, after, before);
-    write_hour(out, before, quantity, money, after)
+    write_hour(writer, before, quantity, money, after);
 }
 
-// Settles the hour of an open day, and writes its text. The lists that it fills stay parameters of their own, here and below: a struct of them could not say that
-// the lists which come back are those that were lent.
+// Settles the hour of an open day, and writes its text.
 fn hour_text(
-    out: &mut [u8],
+    writer: &mut Writer,
     day: Day,
     table: &mut [i64],
     terms: HourTerms,
@@ -62,16 +60,19 @@ fn hour_text(
     money: &mut [i64],
     scratch: &mut [u64],
     before: &mut [i64],
-) -> Result<usize, Cause>
-    requires { TextRoom out.old before.old amounts.now.entries.now }
+) -> Result<(), Cause>
+    requires { TextRoom writer.old before.old amounts.now.entries.now }
     ensures { Writes
         (settled day table.old
         (hour_given terms amounts.now quantity.old money.old scratch.old))
-        out.old out.new result }
+        writer.old writer.new result }
 {
     match settle_hour(day, table, terms, amounts, quantity, money, scratch) {
         Err(refusal) => Err(refusal.cause),
-        Ok(_) => Ok(settled_text(out, terms.zone, table, quantity, money, before)),
+        Ok(_) => {
+            settled_text(writer, terms.zone, table, quantity, money, before);
+            Ok(())
+        }
     }
 }
 
@@ -91,7 +92,7 @@ fn terms_of(hour: i64, zone: i64, thresholds: Thresholds) -> HourTerms
 
 // The hour of an open day, with January's defaults.
 fn january_text(
-    out: &mut [u8],
+    writer: &mut Writer,
     day: Day,
     hour: i64,
     zone: i64,
@@ -101,22 +102,22 @@ fn january_text(
     money: &mut [i64],
     scratch: &mut [u64],
     before: &mut [i64],
-) -> Result<usize, Cause>
-    requires { TextRoom out.old before.old amounts.now.entries.now }
+) -> Result<(), Cause>
+    requires { TextRoom writer.old before.old amounts.now.entries.now }
     ensures { Writes
         (with_defaults day table.old hour zone
         (λ terms. hour_given terms amounts.now quantity.old money.old scratch.old))
-        out.old out.new result }
+        writer.old writer.new result }
 {
     let terms = terms_of(hour, zone, default_thresholds(MONTH, zone)?);
     hour_text(
-        out, day, table, terms, amounts, quantity, money, scratch, before,
+        writer, day, table, terms, amounts, quantity, money, scratch, before,
     )
 }
 
 // Opens a day of as many users as there are entries and of the usual length, and settles the hour.
 fn day_text(
-    out: &mut [u8],
+    writer: &mut Writer,
     hour: i64,
     zone: i64,
     table: &mut [i64],
@@ -125,27 +126,26 @@ fn day_text(
     money: &mut [i64],
     scratch: &mut [u64],
     before: &mut [i64],
-) -> Result<usize, Cause>
-    requires { TextRoom out.old before.old amounts.now.entries.now }
+) -> Result<(), Cause>
+    requires { TextRoom writer.old before.old amounts.now.entries.now }
     ensures { Writes
         (opened hour zone table.old (length amounts.now.entries.now)
         (λ terms. hour_given terms amounts.now quantity.old money.old scratch.old))
-        out.old out.new result }
+        writer.old writer.new result }
 {
     let day = open(amounts.entries.len() as i64, Day::LENGTH_USUAL, table)?;
     january_text(
-        out, day, hour, zone, table, amounts, quantity, money, scratch, before,
+        writer, day, hour, zone, table, amounts, quantity, money, scratch, before,
     )
 }
 
 // The text of a file that is read: the amounts stand at the first `n` places of the four lists, which are cut here, where the contract bounds `n` once for all.
-pub fn amounts_text(out: &mut [u8], hour: i64, zone: i64, n: usize, amounts: &Amounts) -> usize
-    requires { ReadLists out.old n amounts.now }
-    ensures { Put out.old 0
+pub fn amounts_text(writer: &mut Writer, hour: i64, zone: i64, n: usize, amounts: &Amounts)
+    requires { ReadLists writer.old n amounts.now }
+    ensures { Wrote writer.old writer.new
         (opened_new hour zone
         (take n amounts.now.entries.now) (take n amounts.now.exits.now)
-        (take n amounts.now.titles.now) (take n amounts.now.poolings.now))
-        out.new result }
+        (take n amounts.now.titles.now) (take n amounts.now.poolings.now)) }
 {
     let amounts = Amounts {
         entries: &amounts.entries[..n],
@@ -159,7 +159,7 @@ pub fn amounts_text(out: &mut [u8], hour: i64, zone: i64, n: usize, amounts: &Am
     let mut scratch = [0u64; 128];
     let mut before = [0i64; 128];
     let written = day_text(
-        out,
+        writer,
         hour,
         zone,
         &mut table,
@@ -170,7 +170,7 @@ pub fn amounts_text(out: &mut [u8], hour: i64, zone: i64, n: usize, amounts: &Am
         &mut before[..n],
     );
     match written {
-        Ok(end) => end,
-        Err(cause) => write_refused(out, cause.number()),
+        Ok(()) => (),
+        Err(cause) => write_refused(writer, cause.number()),
     }
 }

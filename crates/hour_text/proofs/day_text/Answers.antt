@@ -16,7 +16,7 @@ returns-in_err-day c =
     let n = length c.args.amounts.now.entries.now in
     let users : to_z w64 n ≡ pos n = search rules in
     let k = open_refused (pos n) program_length c.args.table.now (rw users at c.in_err-day.ensures.answer) in
-    refused_writes c.args.out.now _ c.from_residual.ensures.1 (rw k refl)
+    refused_writes c.args.writer.now _ c.from_residual.ensures.1 (rw k refl)
 
 pub returns : goal.returns
 unfolding opened

@@ -10,7 +10,7 @@ pub returns-in_err-default_thresholds : goal.returns-in_err-default_thresholds
 unfolding with_defaults
 returns-in_err-default_thresholds c =
     let e = rw (read c.ranges.zone) at c.in_err-default_thresholds.ensures in
-    refused_writes c.args.out.now _ c.from_residual.ensures.1 (rw (thresholds_refused (pos 1) c.args.zone e) refl)
+    refused_writes c.args.writer.now _ c.from_residual.ensures.1 (rw (thresholds_refused (pos 1) c.args.zone e) refl)
 
 pub returns : goal.returns
 unfolding with_defaults january_terms

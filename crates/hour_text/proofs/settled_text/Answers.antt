@@ -6,7 +6,7 @@ use lib.ListN.{length, take, drop}
 use Rattle.integers.proofs.Machine.{read}
 use Rattle.rules.specs.Days.{first_place}
 use Rattle.hour_text.specs.Lent.{afters}
-use Rattle.hour_text.proofs.Settling.{first_few, after_is, adds_of, settled_put}
+use Rattle.hour_text.proofs.Settling.{first_few, after_is, adds_of, settled_wrote}
 use Rattle.hour_text.proofs.settled_text.Goals.{After-first_place-start}
 use Rattle.hour_text.proofs.settled_text.Goals as goal
 
@@ -39,5 +39,5 @@ add_quantities-requires c = adds_of c.requires (is-after (goal.at.add_quantities
 pub returns : goal.returns
 returns c =
     let a = c.args in
-    settled_put a.zone a.table.now a.quantity.now a.money.now _ _ (is-after (goal.at.returns c).After-first_place-start)
+    settled_wrote a.zone a.table.now a.quantity.now a.money.now _ _ (is-after (goal.at.returns c).After-first_place-start)
     c.add_quantities.ensures c.write_hour.ensures
