@@ -6,11 +6,14 @@ use native.Mathlib.Omega.{arith}
 use lib.IntN.{ℤ, pos}
 use lib.ListN.{length, take, drop, length-map}
 use lib.Seq.{take_at}
+use Rattle.std.specs.Prelude.{Ok, Err}
 use Rattle.integers.specs.Ranges.{natural}
 use Rattle.rules.specs.Limits.{users_most}
 use Rattle.allocation_file.specs.declared.FileRead.{FileRead}
-use Rattle.allocation_file.specs.declared.FileAnswer.TheVariants.{Refused, Read}
 use Rattle.allocation_row.specs.declared.Row.{Row}
+use Rattle.allocation_row.specs.declared.FileCause.{FileCause}
+use Rattle.allocation_row.specs.Causes.{number}
+use Rattle.rules.proofs.Refusing.{not_refused}
 use Rattle.allocation_lines.specs.Turns.{File, refused, read}
 use Rattle.allocation_file.specs.File.{outcome, answer_of, list_of}
 use Rattle.file_guarantees.proofs.Guarantees.{accepted_obeys}
@@ -18,19 +21,19 @@ use Rattle.report.specs.Text.{refused_line}
 use Rattle.hour_text.specs.Opened.{opened_new}
 use Rattle.firsthour.specs.Printed.{of_file}
 
-pub file_refused : (w : File) {k : ℕ} → Refused k ≡ answer_of w → of_file w ≡ refused_line k
+pub file_refused : (w : File) {k : FileCause} → Err k ≡ answer_of w → of_file w ≡ refused_line (number k)
 unfolding of_file
-file_refused (refused c) {k} e = let q : ◌≡◌ {A = ℕ} c k = cc in ap refused_line q
-file_refused (read h z rows) {k} e = let q : ◌≡◌ {A = ℕ} 0 1 = cc in absurd (omega arith)
+file_refused (refused c) {k} e = let q : ◌≡◌ {A = FileCause} c k = cc in ap (λ (c : FileCause). refused_line (number c)) q
+file_refused (read h z rows) e = absurd (not_refused e)
 
 rows_taken : (f : Row → ℤ) (rows : List Row) (xs : List ℤ) → take (length rows) (map f rows ++ drop (length rows) xs) ≡ map f rows
 rows_taken f rows xs = take_at (map f rows) (drop (length rows) xs) (length rows) (length-map rows f)
 
-pub file_read : (w : File) (a b c d : List ℤ) {f : FileRead} {n : ℕ} {a' b' c' d' : List ℤ} → Read f ≡ answer_of w → n ≡ natural f.lines
+pub file_read : (w : File) (a b c d : List ℤ) {f : FileRead} {n : ℕ} {a' b' c' d' : List ℤ} → Ok f ≡ answer_of w → n ≡ natural f.lines
     → a' ≡ list_of (λ r. r.entry) w a → b' ≡ list_of (λ r. r.exit) w b → c' ≡ list_of (λ r. r.title) w c → d' ≡ list_of (λ r. r.pooling) w d
     → of_file w ≡ opened_new f.hour f.zone (take n a') (take n b') (take n c') (take n d')
 unfolding of_file natural
-file_read (refused k) a b c d e l ea eb ec ed = let q : ◌≡◌ {A = ℕ} 0 1 = cc in absurd (omega arith)
+file_read (refused k) a b c d e l ea eb ec ed = absurd (not_refused (sym e))
 file_read (read h z rows) a b c d {f} {n} e l ea eb ec ed =
     let q : ◌≡◌ {A = FileRead} f (record { hour = pos h; zone = pos z; lines = pos (length rows) }) = cc in
     let m : n ≡ length rows = l ∙ ap (λ (g : FileRead). natural g.lines) q in
@@ -47,7 +50,7 @@ file_read (read h z rows) a b c d {f} {n} e l ea eb ec ed =
       rows_taken (λ r. r.pooling) rows d,
     )
 
-pub file_few : (s : List ℕ) (a b c d : List ℤ) {f : FileRead} {n : ℕ} → Read f ≡ answer_of (outcome s a b c d) → n ≡ natural f.lines → n ≤ users_most
+pub file_few : (s : List ℕ) (a b c d : List ℤ) {f : FileRead} {n : ℕ} → Ok f ≡ answer_of (outcome s a b c d) → n ≡ natural f.lines → n ≤ users_most
 unfolding natural
 file_few s a b c d {f} {n} e l =
     let k = accepted_obeys s a b c d f (sym e) in

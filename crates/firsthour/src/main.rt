@@ -11,9 +11,10 @@ ghost use Rattle.hour_text.specs.Lent.{text_most};
 ghost use Rattle.firsthour.specs.Examples.{ExamplesPrinted};
 ghost use Rattle.firsthour.specs.Printed.{input_most, of_file, printed};
 
-use allocation_file::{FileAnswer, read_hour_file};
+use allocation_file::read_hour_file;
 use hour_text::amounts_text;
 use report::write_refused;
+use rules::Amounts;
 use std::io;
 use std::io::Read;
 
@@ -33,19 +34,17 @@ fn file_text(out: &mut [u8], file: &[u8]) -> usize
     let mut titles = [0i64; 128];
     let mut poolings = [0i64; 128];
     let read = match read_hour_file(file, &mut entries, &mut exits, &mut titles, &mut poolings) {
-        FileAnswer::Refused(number) => return write_refused(out, number),
-        FileAnswer::Read(read) => read,
+        Ok(read) => read,
+        Err(cause) => return write_refused(out, cause.number()),
     };
-    amounts_text(
-        out,
-        read.hour,
-        read.zone,
-        integers::natural(read.lines),
-        &entries,
-        &exits,
-        &titles,
-        &poolings,
-    )
+    let amounts = Amounts {
+        entries: &entries,
+        exits: &exits,
+        titles: &titles,
+        poolings: &poolings,
+    };
+    let n = integers::natural(read.lines);
+    amounts_text(out, read.hour, read.zone, n, &amounts)
 }
 
 // The text that is printed for an input.
@@ -60,6 +59,7 @@ fn input_text(out: &mut [u8], input: &[u8]) -> usize
 }
 
 // Reads the input into `room`, which has a byte more than the longest file, so that a longer input is seen. A read that fails counts as the end of the input.
+// No `for`: a read says itself how many bytes it took.
 fn read_input(input: &mut impl Read, room: &mut [u8]) -> usize
     requires { input_most < length room.old }
     ensures { IsPrefixLen result room.new }

@@ -15,7 +15,7 @@ use Rattle.record_c.specs.Records.{day_of}
 use Rattle.flat.specs.Flat.{flat_open, flat_hour, flat_closing, flat_file, flat_written}
 
 -- the interface's version
-unfoldable pub version : ℕ
+abbrev pub version : ℕ
 version = 2
 
 pub record OpenForC (n len : ℤ) (t t' : List ℤ) (r : OpenC) : Type 0 where
@@ -41,6 +41,10 @@ pub record FileForC (s : List ℕ) (a b c d : List ℤ) (r : FileC) (a' b' c' d'
   pub exits : b' ≡ list_of (λ w. w.exit) (outcome s a b c d) b
   pub titles : c' ≡ list_of (λ w. w.title) (outcome s a b c d) c
   pub poolings : d' ≡ list_of (λ w. w.pooling) (outcome s a b c d) d
+
+-- what is to be written, from the call's parameters
+abbrev pub content_listed : ℤ → ℤ → ℤ → List ℤ → List ℤ → List ℤ → List ℤ → Content
+content_listed h z n a b c d = record { hour = h; zone = z; users = n; entry = a; exit = b; title = c; pooling = d }
 
 pub record WriteForC (w : Content) (file : List ℕ) (r : WrittenC) (file' : List ℕ) : Type 0 where
   pub answer : r ≡ flat_written (write_answer w file)

@@ -4,15 +4,14 @@
 #![tactic(auto)]
 
 ghost use Rattle.std.specs.Prelude.{◌≡◌};
-ghost use Rattle.rules.specs.Hours.{hour_given, closing_given};
+ghost use Rattle.rules.specs.Hours.{hour_listed, closing_given};
 ghost use Rattle.rules.specs.Answers.{thresholds_answer};
-ghost use Rattle.allocation_writer.specs.Writer.{content};
 ghost use Rattle.flat.specs.Flat.{flat_thresholds};
-ghost use Rattle.gas_day_c.specs.Promises.{version, OpenForC, HourForC, ClosingForC, FileForC, WriteForC};
+ghost use Rattle.gas_day_c.specs.Promises.{version, OpenForC, HourForC, ClosingForC, FileForC, WriteForC, content_listed};
 
 use flat::{ClosingC, FileC, HourC, OpenC, ThresholdsC, WrittenC};
 use record_c::DayC;
-use rules::{ClosingTerms, HourTerms};
+use rules::{Amounts, ClosingTerms, HourTerms};
 
 // The interface's version: one more where a client that was built with an older header would call it wrongly.
 pub const VERSION: u64 = 2;
@@ -30,7 +29,7 @@ pub extern "C" fn gas_day_version() -> u64
 pub extern "C" fn gas_day_open(users: i64, length: i64, table: &mut [i64]) -> OpenC
     ensures { OpenForC users length table.old table.new result }
 {
-    flat::flat_open(gas_day::open(users, length, table))
+    gas_day::open(users, length, table).into()
 }
 
 // ---- default thresholds
@@ -39,7 +38,7 @@ pub extern "C" fn gas_day_open(users: i64, length: i64, table: &mut [i64]) -> Op
 pub extern "C" fn gas_day_default_thresholds(month: i64, zone: i64) -> ThresholdsC
     ensures { result ≡ flat_thresholds (thresholds_answer month zone) }
 {
-    flat::flat_thresholds(gas_day::default_thresholds(month, zone))
+    gas_day::default_thresholds(month, zone).into()
 }
 
 // ---- an hour
@@ -58,24 +57,19 @@ pub extern "C" fn gas_day_settle_hour(
     scratch: &mut [u64],
 ) -> HourC
     ensures { HourForC day table.old
-        (hour_given terms
+        (hour_listed terms
         entry.now exit.now title.now pooling.now
         quantity.old money.old scratch.old)
         table.new quantity.new money.new scratch.new result }
 {
-    let answer = gas_day::settle_hour(
-        record_c::day_of(day),
-        table,
-        terms,
-        entry,
-        exit,
-        title,
-        pooling,
-        quantity,
-        money,
-        scratch,
-    );
-    flat::flat_hour(day, answer)
+    let amounts = Amounts {
+        entries: entry,
+        exits: exit,
+        titles: title,
+        poolings: pooling,
+    };
+    let answer = gas_day::settle_hour(day.into(), table, terms, &amounts, quantity, money, scratch);
+    HourC::of(day, answer)
 }
 
 // ---- a closing
@@ -92,8 +86,8 @@ pub extern "C" fn gas_day_close_zone(
         (closing_given terms quantity.old money.old)
         table.new quantity.new money.new result }
 {
-    let answer = gas_day::close_zone(record_c::day_of(day), table, terms, quantity, money);
-    flat::flat_closing(day, answer)
+    let answer = gas_day::close_zone(day.into(), table, terms, quantity, money);
+    ClosingC::of(day, answer)
 }
 
 // ---- the hour's file
@@ -110,7 +104,7 @@ pub extern "C" fn gas_day_read_hour_file(
         entries.old exits.old titles.old poolings.old result
         entries.new exits.new titles.new poolings.new }
 {
-    flat::flat_file(allocation_file::read_hour_file(file, entries, exits, titles, poolings))
+    allocation_file::read_hour_file(file, entries, exits, titles, poolings).into()
 }
 
 // ---- the hour's file, written
@@ -127,11 +121,15 @@ pub extern "C" fn gas_day_write_hour_file(
     file: &mut [u8],
 ) -> WrittenC
     ensures { WriteForC
-        (content hour zone users
+        (content_listed hour zone users
         entry.now exit.now title.now pooling.now)
         file.old result file.new }
 {
-    flat::flat_written(allocation_writer::write_hour_file(
-        hour, zone, users, entry, exit, title, pooling, file,
-    ))
+    let amounts = Amounts {
+        entries: entry,
+        exits: exit,
+        titles: title,
+        poolings: pooling,
+    };
+    allocation_writer::write_hour_file(hour, zone, users, &amounts, file).into()
 }

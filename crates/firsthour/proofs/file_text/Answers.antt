@@ -10,18 +10,24 @@ use Rattle.integers.proofs.Machine.{back}
 use Rattle.allocation_file.specs.File.{file_of}
 use Rattle.firsthour.proofs.Reading.{file_refused, file_read, file_few}
 use borrow.Author.Rules.{rules}
+use Rattle.firsthour.proofs.file_text.Goals.{After-natural-n}
 use Rattle.firsthour.proofs.file_text.Goals as goal
 
 abbrev zeros : List ℤ
 zeros = replicate 128 (pos 0)
 
-pub returns-in-Refused : goal.returns-in-Refused
-returns-in-Refused c = rw (file_refused (file_of c.args.file.now) c.in-Refused.ensures.answer) c.write_refused.ensures
+pub returns-in-Err : goal.returns-in-Err
+returns-in-Err c =
+    rw (file_refused (file_of c.args.file.now) c.in-Err.ensures.answer) (rw c.number.ensures at c.write_refused.ensures)
+
+-- the lines as they are counted
+counted : (c : After-natural-n) → c.natural-n.result ≡ natural c.in-Ok.read.lines
+counted c = rw (back c.in-Ok.read.lines (search rules)) at c.natural-n.ensures
 
 pub amounts_text-requires : goal.amounts_text-requires
 amounts_text-requires c =
-    let counted : c.natural.result ≡ natural c.in-Read.read.lines = rw (back c.in-Read.read.lines (search rules)) at c.natural.ensures in
-    let few : c.natural.result ≤ 128 = file_few c.args.file.now zeros zeros zeros zeros c.in-Read.ensures.answer counted in
+    let d = (goal.at.amounts_text-requires c).After-natural-n in
+    let few : c.natural-n.result ≤ 128 = file_few c.args.file.now zeros zeros zeros zeros c.in-Ok.ensures.answer (counted d) in
     let l = c.read_hour_file.auto in
     record {
       room = c.requires;
@@ -34,7 +40,7 @@ amounts_text-requires c =
 
 pub returns : goal.returns
 returns c =
-    let counted : c.natural.result ≡ natural c.in-Read.read.lines = rw (back c.in-Read.read.lines (search rules)) at c.natural.ensures in
+    let d = (goal.at.returns c).After-natural-n in
     let r = c.read_hour_file.ensures in
-    rw (file_read (file_of c.args.file.now) zeros zeros zeros zeros c.in-Read.ensures.answer counted r.entries r.exits r.titles r.poolings)
-    (rw (back c.in-Read.read.hour (search rules), back c.in-Read.read.zone (search rules)) at c.amounts_text.ensures)
+    rw (file_read (file_of c.args.file.now) zeros zeros zeros zeros c.in-Ok.ensures.answer (counted d) r.entries r.exits r.titles r.poolings)
+    (rw (back c.in-Ok.read.hour (search rules), back c.in-Ok.read.zone (search rules)) at c.amounts_text.ensures)

@@ -1,2 +1,0 @@
--- Why the calls for C answer as their specifications say.
-mod Calls
