@@ -7,7 +7,7 @@ ghost use Rattle.allocation_file.specs.File.{all128, ReadHour};
 ghost use Rattle.allocation_file.specs.Steps.{in_signed};
 
 use allocation_lines::{LinesRead, read_body};
-use allocation_row::FileCause;
+use allocation_row::{FileCause, Lists};
 use csv_lines::begins_with;
 
 // What a file that is read says besides its amounts: the hour, the zone's number (0 is H, 1 is L) and the number of
@@ -43,7 +43,7 @@ fn all_128(a: usize, b: usize, c: usize, d: usize) -> bool
 }
 
 // Reads the file into the four lists: as many places are filled as the file has lines, and the others stay as they
-// were. A refusal leaves all as they were. (The four lists are parameters: `read_lines` says why.)
+// were. A refusal leaves all as they were.
 pub fn read_hour_file(
     file: &[u8],
     entries: &mut [i64],
@@ -62,6 +62,12 @@ pub fn read_hour_file(
     if !begins_with(file, &HEADER) {
         return Err(FileCause::Header);
     }
-    let lines = read_body(file, HEADER.len(), entries, exits, titles, poolings)?;
+    let mut lists = Lists {
+        entries,
+        exits,
+        titles,
+        poolings,
+    };
+    let lines = read_body(file, HEADER.len(), &mut lists)?;
     Ok(FileRead::from(lines))
 }

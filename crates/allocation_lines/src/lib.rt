@@ -7,7 +7,7 @@ ghost use Rattle.csv_lines.specs.Lines.{lines};
 ghost use Rattle.allocation_lines.specs.Turns.{in_turn, body_of};
 ghost use Rattle.allocation_lines.specs.Steps.{Lent, After};
 
-use allocation_row::{FileCause, follows_on, read_row, store};
+use allocation_row::{FileCause, Lists, follows_on, read_row};
 use csv_lines::line_at;
 
 // What lines that are read say besides their amounts: the hour, the zone's number and how many lines there are.
@@ -20,24 +20,18 @@ pub struct LinesRead {
 
 // Reads the lines from `at` on, the first of which is at `place`, in a file of `hour` and `zone`. A line is checked
 // before the lines after it are read, and stored once they all are: so a refusal touches no list, and no line is read
-// twice. The calls are at most 129 deep: no row follows at place 128. (The four lists are parameters, and no struct of
-// `&mut` lists: no clause can say of one that the lists that come back are the ones lent.)
+// twice. The calls are at most 129 deep: no row follows at place 128.
 fn read_lines(
     file: &[u8],
     at: usize,
     place: usize,
     hour: u32,
     zone: u32,
-    entries: &mut [i64],
-    exits: &mut [i64],
-    titles: &mut [i64],
-    poolings: &mut [i64],
+    lists: &mut Lists,
 ) -> Result<LinesRead, FileCause>
-    requires { (place ≤ 128) × Lent entries.old exits.old titles.old poolings.old }
+    requires { (place ≤ 128) × Lent lists.old }
     ensures { After place (in_turn hour zone (lines (drop at file.now)) place)
-        entries.old exits.old titles.old poolings.old
-        result
-        entries.new exits.new titles.new poolings.new }
+        lists.old result lists.new }
 {
     if file.len() <= at {
         let lines = place as u32;
@@ -49,42 +43,21 @@ fn read_lines(
     if !follows_on(row, place, hour, zone) {
         return Err(FileCause::Turn);
     }
-    let read = read_lines(
-        file,
-        next,
-        place + 1,
-        hour,
-        zone,
-        entries,
-        exits,
-        titles,
-        poolings,
-    )?;
-    store(row, place, entries, exits, titles, poolings);
+    let read = read_lines(file, next, place + 1, hour, zone, lists)?;
+    lists.store(row, place);
     Ok(read)
 }
 
 // Reads the lines from `at` on, where the header ends. The first line gives the hour and the zone, and is then read in
 // its turn like any other.
-pub fn read_body(
-    file: &[u8],
-    at: usize,
-    entries: &mut [i64],
-    exits: &mut [i64],
-    titles: &mut [i64],
-    poolings: &mut [i64],
-) -> Result<LinesRead, FileCause>
-    requires { Lent entries.old exits.old titles.old poolings.old }
+pub fn read_body(file: &[u8], at: usize, lists: &mut Lists) -> Result<LinesRead, FileCause>
+    requires { Lent lists.old }
     ensures { After 0 (body_of (lines (drop at file.now)))
-        entries.old exits.old titles.old poolings.old
-        result
-        entries.new exits.new titles.new poolings.new }
+        lists.old result lists.new }
 {
     if file.len() <= at {
         return Err(FileCause::NoLine);
     }
     let first = read_row(line_at(file, at))?;
-    read_lines(
-        file, at, 0, first.hour, first.zone, entries, exits, titles, poolings,
-    )
+    read_lines(file, at, 0, first.hour, first.zone, lists)
 }

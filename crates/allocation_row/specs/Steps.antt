@@ -1,17 +1,26 @@
 -- A row's amounts in the four lists lent. Nobody needs this to believe what a line says. Assumes nothing.
-use Rattle.std.specs.Prelude.{ℕ, ◌<◌, ◌≡◌, List, ℤ, length, set}
+use Rattle.std.specs.Prelude.{ℕ, ◌<◌, ◌≡◌, length, set}
+use Rattle.allocation_row.specs.declared.Lists.{Lists}
 use Rattle.allocation_row.specs.declared.Row.{Row}
 
 -- a place within each
-pub record Within (k : ℕ) (a b c d : List ℤ) : Type 0 where
-  pub entries : k < length a
-  pub exits : k < length b
-  pub titles : k < length c
-  pub poolings : k < length d
+pub record Within (k : ℕ) (l : Lists) : Type 0 where
+  pub entries : k < length l.entries.now
+  pub exits : k < length l.exits.now
+  pub titles : k < length l.titles.now
+  pub poolings : k < length l.poolings.now
+
+-- the lists that come back are the ones lent
+pub record Same (l l' : Lists) : Type 0 where
+  pub entries : l'.entries.ghost_name ≡ l.entries.ghost_name
+  pub exits : l'.exits.ghost_name ≡ l.exits.ghost_name
+  pub titles : l'.titles.ghost_name ≡ l.titles.ghost_name
+  pub poolings : l'.poolings.ghost_name ≡ l.poolings.ghost_name
 
 -- a row's amounts, put at place k
-pub record Stored (r : Row) (k : ℕ) (a b c d a' b' c' d' : List ℤ) : Type 0 where
-  pub entries : a' ≡ set a k r.entry
-  pub exits : b' ≡ set b k r.exit
-  pub titles : c' ≡ set c k r.title
-  pub poolings : d' ≡ set d k r.pooling
+pub record Stored (r : Row) (k : ℕ) (l l' : Lists) : Type 0 where
+  pub same : Same l l'
+  pub entries : l'.entries.now ≡ set l.entries.now k r.entry
+  pub exits : l'.exits.now ≡ set l.exits.now k r.exit
+  pub titles : l'.titles.now ≡ set l.titles.now k r.title
+  pub poolings : l'.poolings.now ≡ set l.poolings.now k r.pooling

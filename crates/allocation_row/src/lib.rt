@@ -128,23 +128,24 @@ pub fn follows_on(row: Row, place: usize, hour: u32, zone: u32) -> bool
     row.hour == hour && row.zone == zone && row.place as usize == place && place < 128
 }
 
-// Puts a row's four amounts at `place`. (Four lists and no struct of `&mut` lists: no clause can say of one that the lists that come
-// back are the ones lent.)
-pub fn store(
-    row: Row,
-    place: usize,
-    entries: &mut [i64],
-    exits: &mut [i64],
-    titles: &mut [i64],
-    poolings: &mut [i64],
-)
-    requires { Within place entries.old exits.old titles.old poolings.old }
-    ensures { Stored row place
-        entries.old exits.old titles.old poolings.old
-        entries.new exits.new titles.new poolings.new }
-{
-    entries[place] = row.entry;
-    exits[place] = row.exit;
-    titles[place] = row.title;
-    poolings[place] = row.pooling;
+// The four lists that are lent to be filled.
+#[derive(Drop)]
+pub struct Lists<'a> {
+    pub entries: &'a mut [i64],
+    pub exits: &'a mut [i64],
+    pub titles: &'a mut [i64],
+    pub poolings: &'a mut [i64],
+}
+
+impl Lists<'_> {
+    // Puts a row's four amounts at `place`.
+    pub fn store(&mut self, row: Row, place: usize)
+        requires { Within place self.old }
+        ensures { Stored row place self.old self.new }
+    {
+        self.entries[place] = row.entry;
+        self.exits[place] = row.exit;
+        self.titles[place] = row.title;
+        self.poolings[place] = row.pooling;
+    }
 }
