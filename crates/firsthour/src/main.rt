@@ -3,10 +3,10 @@
 
 #![tactic(auto)]
 
-ghost use Rattle.std.specs.Prelude.{◌≤◌, ◌<◌, length};
+ghost use Rattle.std.specs.Prelude.{◌<◌, length};
 ghost use Rattle.allocation_file.specs.File.{file_of};
 ghost use Rattle.std.specs.Counts.{IsPrefixLen};
-ghost use Rattle.text.specs.Puts.{Put};
+ghost use Rattle.text.specs.Puts.{Room, Wrote};
 ghost use Rattle.hour_text.specs.Lent.{text_most};
 ghost use Rattle.firsthour.specs.Examples.{ExamplesPrinted};
 ghost use Rattle.firsthour.specs.Printed.{input_most, of_file, printed};
@@ -17,6 +17,7 @@ use report::write_refused;
 use rules::Amounts;
 use std::io;
 use std::io::Read;
+use text::writing::Writer;
 
 // The bytes of the longest input that is read.
 const INPUT_MOST: usize = 65_536;
@@ -25,9 +26,9 @@ const INPUT_MOST: usize = 65_536;
 const TEXT_MOST: usize = 13_592;
 
 // The text of a file.
-fn file_text(out: &mut [u8], file: &[u8]) -> usize
-    requires { text_most ≤ length out.old }
-    ensures { Put out.old 0 (of_file (file_of file.now)) out.new result }
+fn file_text(writer: &mut Writer, file: &[u8])
+    requires { Room writer.old text_most }
+    ensures { Wrote writer.old writer.new (of_file (file_of file.now)) }
 {
     let mut entries = [0i64; 128];
     let mut exits = [0i64; 128];
@@ -35,7 +36,7 @@ fn file_text(out: &mut [u8], file: &[u8]) -> usize
     let mut poolings = [0i64; 128];
     let read = match read_hour_file(file, &mut entries, &mut exits, &mut titles, &mut poolings) {
         Ok(read) => read,
-        Err(cause) => return write_refused(out, cause.number()),
+        Err(cause) => return write_refused(writer, cause.number()),
     };
     let amounts = Amounts {
         entries: &entries,
@@ -44,18 +45,18 @@ fn file_text(out: &mut [u8], file: &[u8]) -> usize
         poolings: &poolings,
     };
     let n = integers::natural(read.lines);
-    amounts_text(out, read.hour, read.zone, n, &amounts)
+    amounts_text(writer, read.hour, read.zone, n, &amounts);
 }
 
 // The text that is printed for an input.
-fn input_text(out: &mut [u8], input: &[u8]) -> usize
-    requires { text_most ≤ length out.old }
-    ensures { Put out.old 0 (printed input.now) out.new result }
+fn input_text(writer: &mut Writer, input: &[u8])
+    requires { Room writer.old text_most }
+    ensures { Wrote writer.old writer.new (printed input.now) }
 {
     if INPUT_MOST < input.len() {
-        return write_refused(out, 14);
+        return write_refused(writer, 14);
     }
-    file_text(out, input)
+    file_text(writer, input);
 }
 
 // Reads the input into `room`, which has a byte more than the longest file, so that a longer input is seen. A read that fails counts as the end of the input.
@@ -84,6 +85,11 @@ fn main(rt: HostRuntime) -> io::Result<()> {
     let mut input = [0u8; INPUT_MOST + 1];
     let length = read_input(&mut rt.stdin(), &mut input);
     let mut out = [0u8; TEXT_MOST];
-    let end = input_text(&mut out, &input[..length]);
+    let mut writer = Writer {
+        out: &mut out,
+        end: 0,
+    };
+    input_text(&mut writer, &input[..length]);
+    let end = writer.end;
     rt.write_all(&out[..end])
 }
