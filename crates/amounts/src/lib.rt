@@ -31,7 +31,7 @@ fn befores_fit(part: &[i64], amounts: &Amounts) -> bool
     let mut fit = true;
     // A pass that stops nowhere: `all` stops early, and takes twice the time where every user is looked at.
     for user in 0..amounts.entries.len() {
-        let before = positions::before_of(part[user], amounts, user);
+        let before = positions::before_of_user(part[user], amounts, user);
         fit &= Position::fits(before);
     }
     fit

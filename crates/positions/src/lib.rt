@@ -31,14 +31,28 @@ fn transferred(title: i64, pooling: i64) -> i64
 }
 
 // "the position in the table plus entry, exit, title and pooling amounts"
-pub fn before_of(position: i64, amounts: &Amounts, user: usize) -> i64
+pub fn before_of(position: i64, entry: i64, exit: i64, title: i64, pooling: i64) -> i64
+    requires { (nat_abs position ≤ position_most)
+        × (nat_abs entry ≤ entry_most) × (nat_abs exit ≤ exit_most)
+        × (nat_abs title ≤ title_most) × (nat_abs pooling ≤ pooling_most) }
+    ensures { result ≡ position +ℤ (entry +ℤ exit +ℤ title +ℤ pooling) }
+{
+    position + (allocated(entry, exit) + transferred(title, pooling))
+}
+
+// The same of a user, whose amounts stand at its place.
+pub fn before_of_user(position: i64, amounts: &Amounts, user: usize) -> i64
     requires { (nat_abs position ≤ position_most) × (user < length amounts.now.entries.now)
         × OneLength amounts.now × (all_fit amounts.now ≡ true) }
     ensures { result ≡ position +ℤ amounts_at amounts.now user }
 {
-    position
-        + (allocated(amounts.entries[user], amounts.exits[user])
-            + transferred(amounts.titles[user], amounts.poolings[user]))
+    before_of(
+        position,
+        amounts.entries[user],
+        amounts.exits[user],
+        amounts.titles[user],
+        amounts.poolings[user],
+    )
 }
 
 // The sum of the amounts or positions of all users.

@@ -19,7 +19,7 @@ fn add_amounts(positions: &mut [i64], amounts: &Amounts)
     ensures { positions.new ≡ befores positions.old amounts.now }
 {
     for i in 0..positions.len() {
-        positions[i] = positions::before_of(positions[i], amounts, i);
+        positions[i] = positions::before_of_user(positions[i], amounts, i);
     }
 }
 

@@ -21,8 +21,8 @@ pub loop-user-init : goal.loop-user-init
 unfolding every
 loop-user-init c = search rules
 
-pub before_of-before-requires : goal.before_of-before-requires
-before_of-before-requires c =
+pub before_of_user-before-requires : goal.before_of_user-before-requires
+before_of_user-before-requires c =
     let l = c.requires.lent in
     (read_elem (positions_small _ l.positions) c.loop-user.user, omega arith, l.lists, c.requires.fit)
 
@@ -32,8 +32,8 @@ loop-user-preserved c =
     let l = c.loop-user in
     let a = c.args in
     let ps = befores a.part.now a.amounts.now in
-    let before : to_z w64 (of_z w64 c.before_of-before.result) ≡ get_or ps l.user (pos 0) =
-    back _ c.before_of-before.type_inv ∙ rw (back (get_or a.part.now l.user (pos 0)) (search rules)) at c.before_of-before.ensures
+    let before : to_z w64 (of_z w64 c.before_of_user-before.result) ≡ get_or ps l.user (pos 0) =
+    back _ c.before_of_user-before.type_inv ∙ rw (back (get_or a.part.now l.user (pos 0)) (search rules)) at c.before_of_user-before.ensures
     ∙ sym (befores_at a.part.now a.amounts.now l.user (omega arith)) in
     ap₂ (λ (x y : Bool). x && y) l.invariant (rw before at c.fits-fit.ensures)
     ∙ sym (every-step position_fit (pos 0) ps l.user (omega (arith, length-befores a.part.now a.amounts.now)))

@@ -20,11 +20,11 @@ long c = length-befores c.args.positions.now c.args.amounts.now ∙ sym c.requir
 old : (c : In-loop-i) → get_or c.loop-i.positions c.loop-i.i (pos 0) ≡ get_or c.args.positions.now c.loop-i.i (pos 0)
 old c = written_elem _ c.args.positions.now _ _ c.loop-i.invariant (length-befores _ _ ∙ sym c.requires.0) (pos 0) (omega arith)
 
-pub before_of-requires : goal.before_of-requires
-before_of-requires c =
+pub before_of_user-requires : goal.before_of_user-requires
+before_of_user-requires c =
     let l = c.loop-i in
     let r = c.requires.1 in (
-      read_still (positions_small _ r.lent.positions) l.positions l.i (old (goal.at.before_of-requires c).In-loop-i),
+      read_still (positions_small _ r.lent.positions) l.positions l.i (old (goal.at.before_of_user-requires c).In-loop-i),
       omega arith,
       r.lent.lists,
       r.fit,
@@ -36,9 +36,9 @@ loop-i-preserved c =
     let l = c.loop-i in
     let a = c.args in
     let d = goal.at.loop-i-preserved c in
-    let v = rw (back (get_or l.positions l.i (pos 0)) (search rules), old d.In-loop-i) at c.before_of.ensures in
+    let v = rw (back (get_or l.positions l.i (pos 0)) (search rules), old d.In-loop-i) at c.before_of_user.ensures in
     written_next _ a.positions.now _ _ l.invariant (long d.Start) (pos 0) _ (omega arith)
-    (back _ c.before_of.type_inv ∙ v ∙ sym (befores_at a.positions.now a.amounts.now l.i (omega arith)))
+    (back _ c.before_of_user.type_inv ∙ v ∙ sym (befores_at a.positions.now a.amounts.now l.i (omega arith)))
 
 pub returns : goal.returns
 returns c = written_all _ c.args.positions.now _ _ c.loop-i.invariant (long (goal.at.returns c).Start) (omega arith)
