@@ -161,6 +161,7 @@ fn after(remainder: u64, cut: Cut) -> Cut
     }
 }
 
+// One function for both passes: its contract bounds the sum once.
 fn plus(x: i64, unit: u64) -> i64
     requires { (nat_abs x ≤ market_most) × (unit ≤ 1) }
     ensures { result ≡ x +ℤ pos unit }

@@ -39,7 +39,7 @@ pub fn default_thresholds(month: i64, zone: i64) -> Result<Thresholds, Cause>
     Ok(Thresholds { upper, lower })
 }
 
-// Settles an hour of a zone: causes 2 to 11.
+// Settles an hour of a zone: causes 2 to 11. (The lists that it fills come one by one, as the C interface lends them.)
 pub fn settle_hour(
     day: Day,
     table: &mut [i64],

@@ -15,7 +15,7 @@ use rules::{Amounts, HourTerms};
 
 // ---- rule 1
 
-// Exits are already negative: they are added.
+// Exits are already negative: they are added. (Each partial sum is a function, so that its contract bounds it.)
 fn allocated(entry: i64, exit: i64) -> i64
     requires { (nat_abs entry ≤ entry_most) × (nat_abs exit ≤ exit_most) }
     ensures { result ≡ entry +ℤ exit }

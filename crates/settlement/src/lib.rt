@@ -9,8 +9,6 @@ ghost use Rattle.settlement.specs.Steps.{Asks, UsersLeave, ZoneLeaves, TableAsks
 use positions::Imbalance;
 use rules::{Amounts, HourTerms, Outcome, Side};
 
-// The lists that are written stay parameters: the contract of a struct of `&mut` lists could not say that the lists that come back are the ones lent.
-
 // ---- the users of a zone
 
 fn add_amounts(positions: &mut [i64], amounts: &Amounts)
