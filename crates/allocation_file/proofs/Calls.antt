@@ -1,44 +1,24 @@
 -- The call's answer and the four lists, from what the lines after the header make of them. Assumes nothing.
 use mathlib.Core.Path.{◌≡◌}
-use mathlib.Core.Bool.{Bool, true, ◌&&◌}
 use mathlib.Core.List.{List}
 use Prim.Native.Nat.{ℕ, ◌+◌}
 use native.Mathlib.Nat.{zero-add}
 use native.Mathlib.Omega.{arith}
-use lib.Dec.{eqb}
 use lib.IntN.{ℤ}
 use lib.ListN.{length}
-use borrow.Author.Tests.{eqb-true}
-use Rattle.integers.proofs.Tests.{and_true}
 use Rattle.std.specs.Prelude.{Result, Ok, Err}
 use Rattle.allocation_row.specs.declared.FileCause.{FileCause}
 use Rattle.allocation_row.specs.declared.Lists.{Lists}
 use Rattle.allocation_lines.specs.Turns.{File, refused, read}
-use Rattle.allocation_lines.specs.Steps.{Lent, After}
+use Rattle.allocation_lines.specs.Steps.{After}
 use Rattle.allocation_lines.specs.declared.LinesRead.{LinesRead}
 use Rattle.allocation_file.specs.declared.FileRead.{FileRead}
-use Rattle.allocation_file.specs.File.{all128, outcome, ReadHour}
+use Rattle.allocation_file.specs.File.{outcome, ReadHour}
 use Rattle.allocation_file.specs.Steps.{in_signed}
 
 -- a refusal touches no list
 pub refusal : {s : List ℕ} {a b c d : List ℤ} {n : FileCause} → outcome s a b c d ≡ refused n → ReadHour s a b c d (Err n) a b c d
 refusal e = record { answer = rw e; entries = rw e; exits = rw e; titles = rw e; poolings = rw e }
-
--- lists of the right lengths
-pub lent : (l : Lists) → all128 (length l.entries.now) (length l.exits.now) (length l.titles.now) (length l.poolings.now) ≡ true → Lent l
-lent l e =
-    let p = and_true (long l.entries.now && long l.exits.now) (long l.titles.now && long l.poolings.now) e in
-    let q = and_true (long l.entries.now) (long l.exits.now) p.0 in
-    let r = and_true (long l.titles.now) (long l.poolings.now) p.1 in
-    record {
-      entries = eqb-true _ _ q.0;
-      exits = eqb-true _ _ q.1;
-      titles = eqb-true _ _ r.0;
-      poolings = eqb-true _ _ r.1;
-    }
-  where
-    long : List ℤ → Bool
-    long xs = eqb (length xs) 128
 
 -- what the call makes of the lists lent
 abbrev outcome_of : List ℕ → Lists → File

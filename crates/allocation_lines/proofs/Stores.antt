@@ -1,12 +1,11 @@
 -- The answer and the four lists at each way out of the reading of the lines from place k on. Assumes nothing.
-use mathlib.Core.Path.{◌≡◌, refl, sym, ◌∙◌}
-use mathlib.Core.List.{List, [], ◌∷◌, ◌++◌, map}
+use mathlib.Core.Path.{◌≡◌, refl, ◌∙◌}
+use mathlib.Core.List.{List, ◌∷◌, ◌++◌, map}
 use Prim.Native.Nat.{ℕ, suc, ◌+◌, ◌<◌}
-use native.Mathlib.Nat.{add-zero}
 use native.Mathlib.Numerals.{add-one}
 use native.Mathlib.Omega.{arith}
 use lib.IntN.{ℤ, pos}
-use lib.ListN.{length, get_or, take, drop, set, take-append-drop, length-append}
+use lib.ListN.{length, get_or, take, drop, set, length-append}
 use lib.Seq.{take-suc, append_snoc, set_at, length-take-le}
 use Rattle.std.specs.Prelude.{Result, Ok, Err}
 use Rattle.allocation_row.specs.declared.Row.{Row}
@@ -32,22 +31,6 @@ same_then p q = record {
 -- ---- no list is touched
 pub after_refused : {k : ℕ} {n : FileCause} {f : File} {l : Lists} → f ≡ refused n → After k f l (Err n) l
 after_refused e = rw e record { answer = refl; same = same_lists; entries = refl; exits = refl; titles = refl; poolings = refl }
-
--- after the last line
-pub after_end : {k h z : ℕ} {f : File} {l : Lists} → f ≡ read h z []
-    → After k f l (Ok (record { hour = h; zone = z; lines = k })) l
-after_end {k} {h} {z} {f} {l} e =
-    rw e record {
-      answer = rw add-zero;
-      same = same_lists;
-      entries = whole l.entries.now;
-      exits = whole l.exits.now;
-      titles = whole l.titles.now;
-      poolings = whole l.poolings.now;
-    }
-  where
-    whole : (xs : List ℤ) → xs ≡ take k xs ++ drop (k + 0) xs
-    whole xs = rw add-zero (sym (take-append-drop k xs))
 
 -- ---- one row more
 module _ {k : ℕ} where

@@ -7,7 +7,7 @@ ghost use Rattle.csv_lines.specs.Lines.{lines};
 ghost use Rattle.allocation_lines.specs.Turns.{in_turn, body_of};
 ghost use Rattle.allocation_lines.specs.Steps.{Lent, After};
 
-use allocation_row::{FileCause, Lists, follows_on, read_row};
+use allocation_row::{FileCause, Lists, Row, follows_on, read_row};
 use csv_lines::line_at;
 
 // What lines that are read say besides their amounts: the hour, the zone's number and how many lines there are.
@@ -18,32 +18,34 @@ pub struct LinesRead {
     pub lines: u32,
 }
 
-// Reads the lines from `at` on, the first of which is at `place`, in a file of `hour` and `zone`. A line is checked
-// before the lines after it are read, and stored once they all are: so a refusal touches no list, and no line is read
-// twice. The calls are at most 129 deep: no row follows at place 128.
+// Reads the lines from `at` on, the first of which is at `place`, in a file whose first line says `first`. A line is
+// checked before the lines after it are read, and stored once they all are: so a refusal touches no list, and no line is
+// read twice. The calls are at most 129 deep: no row follows at place 128.
 fn read_lines(
     file: &[u8],
     at: usize,
     place: usize,
-    hour: u32,
-    zone: u32,
+    first: &Row,
     lists: &mut Lists,
 ) -> Result<LinesRead, FileCause>
     requires { (place ≤ 128) × Lent lists.old }
-    ensures { After place (in_turn hour zone (lines (drop at file.now)) place)
+    ensures { After place (in_turn first.now.hour first.now.zone (lines (drop at file.now)) place)
         lists.old result lists.new }
 {
     if file.len() <= at {
-        let lines = place as u32;
-        return Ok(LinesRead { hour, zone, lines });
+        return Ok(LinesRead {
+            hour: first.hour,
+            zone: first.zone,
+            lines: place as u32,
+        });
     }
     let line = line_at(file, at);
     let next = at + line.len() + 2;
     let row = read_row(line)?;
-    if !follows_on(row, place, hour, zone) {
+    if !follows_on(row, place, first) {
         return Err(FileCause::Turn);
     }
-    let read = read_lines(file, next, place + 1, hour, zone, lists)?;
+    let read = read_lines(file, next, place + 1, first, lists)?;
     lists.store(row, place);
     Ok(read)
 }
@@ -59,5 +61,5 @@ pub fn read_body(file: &[u8], at: usize, lists: &mut Lists) -> Result<LinesRead,
         return Err(FileCause::NoLine);
     }
     let first = read_row(line_at(file, at))?;
-    read_lines(file, at, 0, first.hour, first.zone, lists)
+    read_lines(file, at, 0, &first, lists)
 }

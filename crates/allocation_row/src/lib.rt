@@ -121,11 +121,11 @@ pub fn read_row(line: &[u8]) -> Result<Row, FileCause>
     read_fields(line).ok_or(FileCause::Field)
 }
 
-// Whether a row may stand at `place` in a file of `hour` and `zone`.
-pub fn follows_on(row: Row, place: usize, hour: u32, zone: u32) -> bool
-    ensures { result ≡ follows hour zone place row }
+// Whether a row may stand at `place` in a file whose first line says `first`.
+pub fn follows_on(row: Row, place: usize, first: &Row) -> bool
+    ensures { result ≡ follows first.now.hour first.now.zone place row }
 {
-    row.hour == hour && row.zone == zone && row.place as usize == place && place < 128
+    row.hour == first.hour && row.zone == first.zone && row.place as usize == place && place < 128
 }
 
 // The four lists that are lent to be filled.
