@@ -43,7 +43,7 @@ fn all_128(a: usize, b: usize, c: usize, d: usize) -> bool
 }
 
 // Reads the file into the four lists: as many places are filled as the file has lines, and the others stay as they
-// were. A refusal leaves all as they were.
+// were. A refusal leaves all as they were. (The lists come one by one, as the C interface lends them.)
 pub fn read_hour_file(
     file: &[u8],
     entries: &mut [i64],

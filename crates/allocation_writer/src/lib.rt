@@ -179,7 +179,7 @@ impl HourFile<'_> {
 // ---- the call
 
 // Writes the file of an hour: the header, then a line for each user. The bytes after it stay as they were, and a refusal
-// leaves all of them so.
+// leaves all of them so. (They come as they are, as the C interface lends them.)
 pub fn write_hour_file(
     hour: i64,
     zone: i64,

@@ -12,6 +12,7 @@ ghost use Rattle.firsthour.specs.Examples.{ExamplesPrinted};
 ghost use Rattle.firsthour.specs.Printed.{input_most, of_file, printed};
 
 use allocation_file::read_hour_file;
+use allocation_row::FileCause;
 use hour_text::amounts_text;
 use report::write_refused;
 use rules::Amounts;
@@ -54,7 +55,7 @@ fn input_text(writer: &mut Writer, input: &[u8])
     ensures { Wrote writer.old writer.new (printed input.now) }
 {
     if INPUT_MOST < input.len() {
-        return write_refused(writer, 14);
+        return write_refused(writer, FileCause::Form.number());
     }
     file_text(writer, input);
 }

@@ -5,7 +5,7 @@ use Rattle.firsthour.proofs.input_text.Goals as goal
 
 pub returns-then-input-gt-INPUT_MOST : goal.returns-then-input-gt-INPUT_MOST
 unfolding printed
-returns-then-input-gt-INPUT_MOST c = rw (lt-leb _ _ c.if-input-gt-INPUT_MOST.true) c.write_refused.ensures
+returns-then-input-gt-INPUT_MOST c = rw (lt-leb _ _ c.if-input-gt-INPUT_MOST.true) (rw c.number.ensures at c.write_refused.ensures)
 
 pub returns : goal.returns
 unfolding printed
