@@ -8,10 +8,12 @@ use borrow.Author.Tests.{leb-true}
 use lib.IntN.{ℤ, pos}
 use lib.ListN.{length, length-append}
 use Rattle.std.specs.Prelude.{Ok, Err}
+use Rattle.rules.specs.Refusals.{unless, ◌then◌}
 use Rattle.rules.proofs.Refusing.{unless_none, then_none, by_none, by_some}
 use Rattle.text.specs.Puts.{Put}
 use Rattle.allocation_file.specs.File.{header}
 use Rattle.allocation_writer.specs.declared.WriteCause.{WriteCause}
+use Rattle.allocation_writer.specs.declared.WriteCause.TheVariants.{Counts, Digits, Room}
 use Rattle.allocation_writer.specs.Writer.{Content, file_text, text_of, count_fit, numbers_fit}
 use Rattle.allocation_writer.specs.Writer.{room_for, write_cause, write_answer, written_file, WriteHour}
 use Rattle.allocation_writer.specs.Steps.{lines_text}
@@ -35,7 +37,8 @@ module _ (w : Content) where
     pub accepts : write_cause w file ≡ Ok tt → Accepted
     unfolding write_cause room_for
     accepts e =
-        let p = then_none e in
+        let chain : (unless (count_fit w) Counts then unless (numbers_fit w) Digits then unless (room_for w file) Room) ≡ Ok tt = e in
+        let p = then_none chain in
         let q = then_none p.1 in
         record {
           counts = unless_none _ _ p.0;

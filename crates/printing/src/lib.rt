@@ -83,10 +83,8 @@ impl<const N: usize> Text<N> {
         ensures { self.new ≡ said N self.old (digits n) }
     {
         let mut text = [0u8; 20];
-        let mut writer = Writer {
-            out: &mut text,
-            end: 0,
-        };
+        let out = &mut text[..];
+        let mut writer = Writer { out, end: 0 };
         writer.digits(n);
         let end = writer.end;
         self.say(&text[..end]);
@@ -97,10 +95,8 @@ impl<const N: usize> Text<N> {
         ensures { self.new ≡ said N self.old (decimal x) }
     {
         let mut text = [0u8; 20];
-        let mut writer = Writer {
-            out: &mut text,
-            end: 0,
-        };
+        let out = &mut text[..];
+        let mut writer = Writer { out, end: 0 };
         writer.decimal(x);
         let end = writer.end;
         self.say(&text[..end]);

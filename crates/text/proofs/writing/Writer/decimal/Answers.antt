@@ -1,5 +1,5 @@
 -- By the sign: the `-`, then the digits of the size. Assumes nothing.
-use Rattle.std.proofs.Common.{arith}
+use Rattle.std.proofs.Common.{◌≡◌, ap, ◌∙◌, arith, nat_abs}
 use Rattle.integers.proofs.Machine.{read}
 use Rattle.text.proofs.Decimals.{decimal-negative, decimal-natural, negative-length, natural-length, size-length}
 use Rattle.text.proofs.Puts.{wrote_then, room_left}
@@ -12,7 +12,7 @@ byte-requires c = omega (arith, negative-length c.args.value (rw (read c.ranges.
 pub digits-requires : goal.digits-requires
 digits-requires c =
     let f = read c.ranges.value in
-    let size = rw f at c.unsigned_abs.ensures.value in
+    let size : c.unsigned_abs.result ≡ nat_abs c.args.value = c.unsigned_abs.ensures.value ∙ ap nat_abs f in
     elim c.if-value-lt0.branch [
       | then-value-lt0 w ↦
           let n = rw (← size) at (negative-length c.args.value (rw f at w.if-value-lt0.true)) in
@@ -25,7 +25,7 @@ digits-requires c =
 pub returns-clause-text : goal.returns-clause-text
 returns-clause-text c =
     let f = read c.ranges.value in
-    let size = rw f at c.unsigned_abs.ensures.value in
+    let size : c.unsigned_abs.result ≡ nat_abs c.args.value = c.unsigned_abs.ensures.value ∙ ap nat_abs f in
     elim c.if-value-lt0.branch [
       | then-value-lt0 w ↦
           rw (decimal-negative c.args.value (rw f at w.if-value-lt0.true), ← size) (wrote_then w.byte.ensures (rw w.self-is at c.digits.ensures))
@@ -34,7 +34,7 @@ returns-clause-text c =
 
 pub returns-clause-short : goal.returns-clause-short
 returns-clause-short c =
-    let few = size-length c.ranges.value (rw (read c.ranges.value) at c.unsigned_abs.ensures.value) in
+    let few = size-length c.ranges.value (c.unsigned_abs.ensures.value ∙ ap nat_abs (read c.ranges.value)) in
     let q = c.digits.ensures.put in
     elim c.if-value-lt0.branch [
       | then-value-lt0 w ↦ let p = w.byte.ensures.put in omega (arith, few, rw w.self-is at q.ends, p.ends)
