@@ -42,10 +42,6 @@ pub record FileForC (s : List ℕ) (a b c d : List ℤ) (r : FileC) (a' b' c' d'
   pub titles : c' ≡ list_of (λ w. w.title) (outcome s a b c d) c
   pub poolings : d' ≡ list_of (λ w. w.pooling) (outcome s a b c d) d
 
--- what is to be written, from the call's parameters
-abbrev pub content_listed : ℤ → ℤ → ℤ → List ℤ → List ℤ → List ℤ → List ℤ → Content
-content_listed h z n a b c d = record { hour = h; zone = z; users = n; entry = a; exit = b; title = c; pooling = d }
-
 pub record WriteForC (w : Content) (file : List ℕ) (r : WrittenC) (file' : List ℕ) : Type 0 where
   pub answer : r ≡ flat_written (write_answer w file)
   pub bytes : file' ≡ written_file w file

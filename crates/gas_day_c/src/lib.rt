@@ -7,7 +7,8 @@ ghost use Rattle.std.specs.Prelude.{◌≡◌};
 ghost use Rattle.rules.specs.Hours.{hour_listed, closing_given};
 ghost use Rattle.rules.specs.Answers.{thresholds_answer};
 ghost use Rattle.flat.specs.Flat.{flat_thresholds};
-ghost use Rattle.gas_day_c.specs.Promises.{version, OpenForC, HourForC, ClosingForC, FileForC, WriteForC, content_listed};
+ghost use Rattle.allocation_writer.specs.Writer.{content_listed};
+ghost use Rattle.gas_day_c.specs.Promises.{version, OpenForC, HourForC, ClosingForC, FileForC, WriteForC};
 
 use flat::{ClosingC, FileC, HourC, OpenC, ThresholdsC, WrittenC};
 use record_c::DayC;
