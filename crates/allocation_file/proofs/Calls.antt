@@ -21,7 +21,7 @@ pub refusal : {s : List ℕ} {a b c d : List ℤ} {n : FileCause} → outcome s 
 refusal e = record { answer = rw e; entries = rw e; exits = rw e; titles = rw e; poolings = rw e }
 
 -- what the call makes of the lists lent
-abbrev outcome_of : List ℕ → Lists → File
+abbrev pub outcome_of : List ℕ → Lists → File
 outcome_of s l = outcome s l.entries.now l.exits.now l.titles.now l.poolings.now
 
 -- the call's contract, over the lists lent

@@ -2,7 +2,8 @@
 
 #![tactic(auto)]
 
-ghost use Rattle.std.specs.Prelude.{◌≡◌};
+ghost use Rattle.std.specs.Prelude.{◌≡◌, length};
+ghost use Rattle.allocation_row.specs.Steps.{Same};
 ghost use Rattle.allocation_file.specs.File.{all128, ReadHour};
 ghost use Rattle.allocation_file.specs.Steps.{in_signed};
 
@@ -26,7 +27,7 @@ impl From<LinesRead> for FileRead {
     fn from(lines: LinesRead) -> FileRead {
         FileRead {
             hour: i64::from(lines.hour),
-            zone: i64::from(lines.zone),
+            zone: lines.zone.number(),
             lines: i64::from(lines.lines),
         }
     }
@@ -35,39 +36,31 @@ impl From<LinesRead> for FileRead {
 // The bytes that a file opens with.
 pub const HEADER: [u8; 25] = *b"h,z,g,EEA,XEA,NCTTN,IPT\r\n";
 
-// Whether all four lengths are 128.
-fn all_128(a: usize, b: usize, c: usize, d: usize) -> bool
-    ensures { result ≡ all128 a b c d }
+// Whether all four lists have 128 places.
+fn all_128(lists: &Lists) -> bool
+    ensures { result ≡ all128
+        (length lists.now.entries.now) (length lists.now.exits.now)
+        (length lists.now.titles.now) (length lists.now.poolings.now) }
 {
-    (a == 128 && b == 128) && (c == 128 && d == 128)
+    (lists.entries.len() == 128 && lists.exits.len() == 128)
+        && (lists.titles.len() == 128 && lists.poolings.len() == 128)
 }
 
 // Reads the file into the four lists: as many places are filled as the file has lines, and the others stay as they
-// were. A refusal leaves all as they were. (The lists come one by one, as the C interface lends them.)
-pub fn read_hour_file(
-    file: &[u8],
-    entries: &mut [i64],
-    exits: &mut [i64],
-    titles: &mut [i64],
-    poolings: &mut [i64],
-) -> Result<FileRead, FileCause>
-    ensures { ReadHour file.now
-        entries.old exits.old titles.old poolings.old
+// were. A refusal leaves all as they were. (`same`: what comes back are the lists that were lent.)
+pub fn read_hour_file(file: &[u8], lists: &mut Lists) -> Result<FileRead, FileCause>
+    ensures same { Same lists.old lists.new }
+    ensures read { ReadHour file.now
+        lists.old.entries.now lists.old.exits.now lists.old.titles.now lists.old.poolings.now
         result
-        entries.new exits.new titles.new poolings.new }
+        lists.new.entries.now lists.new.exits.now lists.new.titles.now lists.new.poolings.now }
 {
-    if !all_128(entries.len(), exits.len(), titles.len(), poolings.len()) {
+    if !all_128(lists) {
         return Err(FileCause::Lists);
     }
     if !begins_with(file, &HEADER) {
         return Err(FileCause::Header);
     }
-    let mut lists = Lists {
-        entries,
-        exits,
-        titles,
-        poolings,
-    };
-    let lines = read_body(file, HEADER.len(), &mut lists)?;
+    let lines = read_body(file, HEADER.len(), lists)?;
     Ok(FileRead::from(lines))
 }

@@ -1,2 +1,3 @@
--- The laws of a row at its place.
+-- The laws of the zone's letter and number, and of a row at its place.
+pub mod Zones
 pub mod Follows

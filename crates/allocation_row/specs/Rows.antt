@@ -6,6 +6,8 @@ use Rattle.text.specs.Bytes.{quote_mark, carriage_return, line_feed}
 use Rattle.text.specs.Numbers.{unsigned_of, amount_of}
 use Rattle.csv_lines.specs.Lines.{fields, field_at}
 use Rattle.allocation_row.specs.declared.Row.{Row}
+use Rattle.allocation_row.specs.declared.Zone.{Zone}
+use Rattle.allocation_row.specs.declared.Zone.TheVariants.{H, L}
 use Rattle.allocation_row.specs.declared.FileCause.{FileCause}
 use Rattle.allocation_row.specs.declared.FileCause.TheVariants.{Form, Field}
 
@@ -22,20 +24,23 @@ is_form l = every is_plain l && eqb (length (fields l)) 7
 -- ---- the fields
 
 -- the zones' letters
-abbrev pub letter_h : ℕ
-letter_h = code "H"
+abbrev pub letter : Zone → ℕ
+letter H = code "H"
+letter L = code "L"
 
-abbrev pub letter_l : ℕ
-letter_l = code "L"
+-- "Zones: 0 is H, 1 is L."
+abbrev pub zone_number : Zone → ℕ
+zone_number H = 0
+zone_number L = 1
 
--- "z is the letter H or L", as the zone's number: "0 is H, 1 is L"
-abbrev pub zone_of : List ℕ → Option ℕ
+-- "z is the letter H or L"
+abbrev pub zone_of : List ℕ → Option Zone
 zone_of [] = None
-zone_of (x ∷ []) = cond (eqb x letter_h) (Some 0) (cond (eqb x letter_l) (Some 1) None)
+zone_of (x ∷ []) = cond (eqb x (letter H)) (Some H) (cond (eqb x (letter L)) (Some L) None)
 zone_of (x ∷ y ∷ ys) = None
 
 -- seven fields as a row, if each is well-formed
-unfoldable pub as_row : Option ℕ → Option ℕ → Option ℕ → Option ℤ → Option ℤ → Option ℤ → Option ℤ → Option Row
+unfoldable pub as_row : Option ℕ → Option Zone → Option ℕ → Option ℤ → Option ℤ → Option ℤ → Option ℤ → Option Row
 as_row None z g a b c d = None
 as_row (Some h) None g a b c d = None
 as_row (Some h) (Some z) None a b c d = None
@@ -60,5 +65,5 @@ row_of l = cond (is_form l) (ok_or (fields_of l) Field) (Err Form)
 
 -- "All lines have the first line's h and z; g runs 0, 1, 2 and on, to 127 at most": a row may stand at place k, after a first line with
 -- h and z
-abbrev pub follows : ℕ → ℕ → ℕ → Row → Bool
-follows h z k r = (eqb r.hour h && eqb r.zone z) && (eqb r.place k && ltb k 128)
+abbrev pub follows : ℕ → Zone → ℕ → Row → Bool
+follows h z k r = (eqb r.hour h && eqb (zone_number r.zone) (zone_number z)) && (eqb r.place k && ltb k 128)

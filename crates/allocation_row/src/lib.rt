@@ -3,30 +3,39 @@
 
 #![tactic(auto)]
 
-ghost use Rattle.std.specs.Prelude.{◌≡◌, length};
+ghost use Rattle.std.specs.Prelude.{◌≡◌, length, pos};
 ghost use Rattle.csv_lines.specs.Lines.{fields};
 ghost use Rattle.allocation_row.specs.Causes.{number};
-ghost use Rattle.allocation_row.specs.Rows.{is_plain, is_form, zone_of, fields_of, row_of, follows};
+ghost use Rattle.allocation_row.specs.Rows.{
+  letter,
+  zone_number,
+  is_plain,
+  is_form,
+  zone_of,
+  fields_of,
+  row_of,
+  follows,
+};
 ghost use Rattle.allocation_row.specs.Steps.{Within, Stored};
 
 use csv_lines::field;
 use text::number::{read_amount, read_unsigned};
 
-// The causes for turning a file away, each under the papers' words.
+// The causes for turning a file away, each under the papers' words, with their number.
 #[derive(Clone, Copy, PartialEq, Eq)]
 pub enum FileCause {
     // "a reader's list not of 128 places"
-    Lists,
+    Lists = 12,
     // "header differs"
-    Header,
+    Header = 13,
     // "a line's form or field count"
-    Form,
+    Form = 14,
     // "a field's number or zone letter"
-    Field,
+    Field = 15,
     // "h or z differs from the first line, or g is not the next place below 128"
-    Turn,
+    Turn = 16,
     // "no line after the header"
-    NoLine,
+    NoLine = 17,
 }
 
 impl FileCause {
@@ -34,13 +43,34 @@ impl FileCause {
     pub fn number(self) -> u64
         ensures { result ≡ number self }
     {
+        self as u64
+    }
+}
+
+// "z is the letter H or L".
+#[derive(Clone, Copy, PartialEq, Eq)]
+pub enum Zone {
+    H,
+    L,
+}
+
+impl Zone {
+    pub fn letter(self) -> u8
+        ensures { result ≡ letter self }
+    {
         match self {
-            FileCause::Lists => 12,
-            FileCause::Header => 13,
-            FileCause::Form => 14,
-            FileCause::Field => 15,
-            FileCause::Turn => 16,
-            FileCause::NoLine => 17,
+            Zone::H => b'H',
+            Zone::L => b'L',
+        }
+    }
+
+    // The papers' number: "0 is H, 1 is L".
+    pub fn number(self) -> i64
+        ensures { result ≡ pos (zone_number self) }
+    {
+        match self {
+            Zone::H => 0,
+            Zone::L => 1,
         }
     }
 }
@@ -49,7 +79,7 @@ impl FileCause {
 #[derive(Clone, Copy, PartialEq, Eq)]
 pub struct Row {
     pub hour: u32,
-    pub zone: u32,
+    pub zone: Zone,
     pub place: u32,
     pub entry: i64,
     pub exit: i64,
@@ -83,13 +113,12 @@ fn has_form(line: &[u8]) -> bool
     count == 7
 }
 
-// The zone's letter as its number.
-fn read_zone(field: &[u8]) -> Option<u32>
+fn read_zone(field: &[u8]) -> Option<Zone>
     ensures { result ≡ zone_of field.now }
 {
     match field {
-        [b'H'] => Some(0),
-        [b'L'] => Some(1),
+        [b'H'] => Some(Zone::H),
+        [b'L'] => Some(Zone::L),
         _ => None,
     }
 }

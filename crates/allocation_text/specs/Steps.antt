@@ -2,8 +2,8 @@
 use Rattle.std.specs.Prelude.{ℕ, ◌+◌, ◌*◌, List, [], ◌∷◌, ◌++◌}
 use Rattle.text.specs.Bytes.{comma, line_end}
 use Rattle.text.specs.Decimals.{digits, decimal, field}
+use Rattle.allocation_row.specs.Rows.{letter}
 use Rattle.allocation_row.specs.declared.Row.{Row}
-use Rattle.allocation_text.specs.Text.{letter}
 
 -- the hour, the zone's letter and the place, with the commas after them
 unfoldable pub start_text : Row → List ℕ

@@ -1,13 +1,9 @@
 -- A row into its fields, and fields into a line: what the reader takes apart, put together. Assumes nothing.
-use Rattle.std.specs.Prelude.{ℕ, cond, List, [], ◌∷◌, ◌++◌, eqb}
+use Rattle.std.specs.Prelude.{ℕ, List, [], ◌∷◌, ◌++◌}
 use Rattle.text.specs.Bytes.{comma}
 use Rattle.text.specs.Decimals.{digits, decimal}
-use Rattle.allocation_row.specs.Rows.{letter_h, letter_l}
+use Rattle.allocation_row.specs.Rows.{letter}
 use Rattle.allocation_row.specs.declared.Row.{Row}
-
--- "z is the letter H or L", by the zone's number: "0 is H, 1 is L"
-unfoldable pub letter : ℕ → ℕ
-letter zone = cond (eqb zone 0) letter_h letter_l
 
 -- a row's seven fields, in the header's order
 unfoldable pub field_texts : Row → List (List ℕ)

@@ -6,19 +6,11 @@
 ghost use Rattle.std.specs.Prelude.{◌≡◌, ◌++◌, ◌+◌, ◌≤◌, length};
 ghost use Rattle.text.specs.Bytes.{line_end};
 ghost use Rattle.text.specs.Puts.{Room, Wrote};
-ghost use Rattle.allocation_text.specs.Text.{letter, line_text};
+ghost use Rattle.allocation_text.specs.Text.{line_text};
 ghost use Rattle.allocation_text.specs.Steps.{start_text, amounts_text, line_most};
 
 use allocation_row::Row;
 use text::writing::{Writer, decimal_length, digit_count};
-
-// The zone's letter: 0 is H, 1 is L.
-#[tactic(auto, unfolding(crate::specs::Text::letter))]
-fn letter(zone: u32) -> u8
-    ensures { result ≡ letter zone }
-{
-    if zone == 0 { b'H' } else { b'L' }
-}
 
 // How many bytes a row's line has: its numbers, the zone's letter, six commas and the line's end. (`as`, here and below, only widens: `u64::from` is
 // a call, whose equation each answer after it would have to carry on, and says no more.)
@@ -38,7 +30,7 @@ fn write_start(writer: &mut Writer, row: Row)
     ensures { Wrote writer.old writer.new (start_text row) }
 {
     writer.digits(row.hour as u64);
-    writer.bytes(&[b',', letter(row.zone), b',']);
+    writer.bytes(&[b',', row.zone.letter(), b',']);
     writer.digits(row.place as u64);
     writer.byte(b',');
 }

@@ -11,6 +11,7 @@ ghost use Rattle.allocation_text.specs.Steps.{line_most};
 ghost use Rattle.allocation_writer.specs.Writer.{
   number,
   content,
+  zone_by,
   row_at,
   lists_fit,
   count_fit,
@@ -25,32 +26,28 @@ ghost use Rattle.allocation_writer.specs.Writer.{
 ghost use Rattle.allocation_writer.specs.Steps.{content_of, Tested, lines_text};
 
 use allocation_file::HEADER;
-use allocation_row::Row;
+use allocation_row::{Row, Zone};
 use allocation_text::{line_length, write_line};
 use rules::{Amounts, require};
 use text::writing::{Writer, digit_count};
 
-// The causes for turning the call away, each under the papers' words.
+// The causes for turning the call away, each under the papers' words, with their number.
 #[derive(Clone, Copy, PartialEq, Eq)]
 pub enum WriteCause {
     // "if the count is not 1 to 128, the zone not 0 or 1, or a list is not of the count's length"
-    Counts,
+    Counts = 18,
     // "if the hour or an amount has more than nine digits or the hour is negative"
-    Digits,
+    Digits = 19,
     // "if the lent bytes are too few"
-    Room,
+    Room = 20,
 }
 
 impl WriteCause {
-    // The papers' number.
+    // The papers' number. (Each of the three enums of causes has this one line of its own: a trait for it would take more lines than the three.)
     pub fn number(self) -> u64
         ensures { result ≡ number self }
     {
-        match self {
-            WriteCause::Counts => 18,
-            WriteCause::Digits => 19,
-            WriteCause::Room => 20,
-        }
+        self as u64
     }
 }
 
@@ -68,7 +65,19 @@ fn all_nine_digits(list: &[i64]) -> bool
     list.iter().all(|x| nine_digits(*x))
 }
 
-// What the call is given to write: "hour, zone, user count and four lists".
+// The zone of a number that passes the test of cause 18. (No `From`: not every number is a zone's.)
+#[tactic(auto, unfolding(crate::specs::Writer::zone_by))]
+fn zone_by(number: i64) -> Zone
+    ensures { result ≡ zone_by number }
+{
+    if integers::natural(number) == 0 {
+        Zone::H
+    } else {
+        Zone::L
+    }
+}
+
+// What the call is given to write: "hour, zone, user count and four lists". (The zone stays a number: any may be given, and cause 18 is for those that name none.)
 #[derive(Clone, Copy)]
 struct HourFile<'a> {
     hour: i64,
@@ -125,7 +134,7 @@ impl HourFile<'_> {
         let a = self.amounts;
         Row {
             hour: self.hour as u32,
-            zone: self.zone as u32,
+            zone: zone_by(self.zone),
             place: place as u32,
             entry: a.entries[place],
             exit: a.exits[place],
@@ -179,7 +188,8 @@ impl HourFile<'_> {
 // ---- the call
 
 // Writes the file of an hour: the header, then a line for each user. The bytes after it stay as they were, and a refusal
-// leaves all of them so. (They come as they are, as the C interface lends them.)
+// leaves all of them so. (The bytes come as they are, as the C interface lends them, and not as a `Writer`: the call
+// always begins at the first of them, and answers where its text ends.)
 pub fn write_hour_file(
     hour: i64,
     zone: i64,

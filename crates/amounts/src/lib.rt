@@ -29,7 +29,8 @@ fn befores_fit(part: &[i64], amounts: &Amounts) -> bool
     ensures { result ≡ every position_fit (befores part.now amounts.now) }
 {
     let mut fit = true;
-    // A pass that stops nowhere: `all` stops early, and takes twice the time where every user is looked at.
+    // A pass that stops nowhere: `(0..n).all(..)` proves too, but by one function and one induction more, and it stops early: an hour within its thresholds then takes
+    // a tenth more instructions.
     for user in 0..amounts.entries.len() {
         let before = positions::before_of_user(part[user], amounts, user);
         fit &= Position::fits(before);
@@ -47,7 +48,7 @@ fn amounts_cause(part: &[i64], amounts: &Amounts) -> Result<(), Cause>
     require(befores_fit(part, amounts), Cause::Positions)
 }
 
-// The same over the zone's part of the table.
+// The same over the zone's part of the table, lent on in a branch for each part, as the papers name the form ("&mut table[128..256]"). (The zone stays a number: any may come.)
 #[tactic(auto, unfolding(rules::specs::Days::part, rules::specs::Days::first_place))]
 pub fn zone_amounts_cause(zone: i64, table: &[i64], amounts: &Amounts) -> Result<(), Cause>
     requires { LentTable zone table.now amounts.now }

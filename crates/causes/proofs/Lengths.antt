@@ -9,6 +9,7 @@ use Rattle.integers.proofs.Tests.{and_true}
 use Rattle.rules.specs.declared.Amounts.{Amounts}
 use Rattle.rules.specs.declared.Day.{Day}
 use Rattle.rules.specs.declared.HourTerms.{HourTerms}
+use Rattle.rules.specs.declared.Outputs.{Outputs}
 use Rattle.rules.specs.Limits.{zone_fit}
 use Rattle.rules.specs.Days.{users, part}
 use Rattle.rules.specs.Hours.{hour_given}
@@ -24,17 +25,17 @@ use Rattle.causes.specs.Steps.{hour_lists_long, closing_lists_long}
 tabled : (d : Day) (t : List ℤ) → day_fit d ≡ true → table_long t ≡ true → Tabled d t
 tabled d t day long = record { few = (users_of_lem d day).1; long = table_long_lem t long }
 
-pub closing_tabled : (d : Day) (t q m : List ℤ) → day_fit d ≡ true → closing_lists_long d t q m ≡ true → Tabled d t
-closing_tabled d t q m day long = tabled d t day (and_true (table_long t) _ long).0
+pub closing_tabled : (d : Day) (t : List ℤ) (o : Outputs) → day_fit d ≡ true → closing_lists_long d t o ≡ true → Tabled d t
+closing_tabled d t o day long = tabled d t day (and_true (table_long t) _ long).0
 
-module _ (d : Day) (t : List ℤ) (a : Amounts) (q m : List ℤ) (s : List ℕ) (day : day_fit d ≡ true) (long : hour_lists_long d t a q m s ≡ true) where
+module _ (d : Day) (t : List ℤ) (a : Amounts) (o : Outputs) (s : List ℕ) (day : day_fit d ≡ true) (long : hour_lists_long d t a o s ≡ true) where
   pub hour_tabled : Tabled d t
   hour_tabled = tabled d t day (and_true (table_long t) _ long).0
 
   module _ (k : HourTerms) where
-    lengths : HourLengths (users d) (hour_given k a q m s)
+    lengths : HourLengths (users d) (hour_given k a o s)
     unfolding hour_long
-    lengths = hour_lengths d t (hour_given k a q m s) long
+    lengths = hour_lengths d t (hour_given k a o s) long
 
     pub hour_lent : zone_fit k.zone ≡ true → table_fit d t ≡ true → LentTable k.zone t a
     hour_lent zone fit =
@@ -57,7 +58,7 @@ module _ (d : Day) (t : List ℤ) (a : Amounts) (q m : List ℤ) (s : List ℕ) 
 
     -- past causes 2 to 8
     pub hour_amounts : zone_fit k.zone ≡ true → zone_open k.zone d ≡ true → hour_next d k ≡ true → table_fit d t ≡ true → terms_fit k ≡ true
-        → amounts_cause (part k.zone t) a ≡ hour_cause d t (hour_given k a q m s)
+        → amounts_cause (part k.zone t) a ≡ hour_cause d t (hour_given k a o s)
     unfolding hour_cause hour_long amounts_cause all_fit amounts_fit pooling_adds before_fit
     hour_amounts zone open' next table terms =
-        rw (day, long, zone, open', next, table, terms, before_is d t k a q m s lengths.entries) refl
+        rw (day, long, zone, open', next, table, terms, before_is d t k a o s lengths.entries) refl

@@ -8,7 +8,7 @@ ghost use Rattle.rules.specs.Hours.{hour_given, closing_given};
 ghost use Rattle.rules.specs.Causes.{zone_open, open_cause, thresholds_cause, hour_cause, closing_cause};
 ghost use Rattle.causes.specs.Steps.{filled_long, lent_long, hour_lists_long, closing_lists_long};
 
-use rules::{Amounts, Cause, ClosingTerms, Day, HourTerms, require};
+use rules::{Amounts, Cause, ClosingTerms, Day, HourTerms, Outputs, require};
 
 // ---- opening and default thresholds
 
@@ -21,6 +21,7 @@ pub fn open_cause(users: i64, length: i64, table: &[i64]) -> Result<(), Cause>
     require(table.len() == 256, Cause::Lengths)
 }
 
+// (The zone stays a number: cause 4 is for those that name no zone.)
 #[tactic(auto, unfolding(rules::specs::Causes::thresholds_cause))]
 pub fn thresholds_cause(month: i64, zone: i64) -> Result<(), Cause>
     ensures { result ≡ thresholds_cause month zone }
@@ -42,27 +43,21 @@ fn zone_open(zone: i64, day: Day) -> bool
 // ---- an hour
 
 // Cause 3 in three functions, since the search for a proof of one chain of eight tests gives up: first the lists that an hour fills, and its scratch.
-fn filled_long(users: usize, quantity: &[i64], money: &[i64], scratch: &[u64]) -> bool
-    ensures { result ≡ filled_long users quantity.now money.now scratch.now }
+fn filled_long(users: usize, outputs: &Outputs, scratch: &[u64]) -> bool
+    ensures { result ≡ filled_long users outputs.now scratch.now }
 {
-    quantity.len() == users && money.len() == users && scratch.len() == users
+    outputs.quantity.len() == users && outputs.money.len() == users && scratch.len() == users
 }
 
 // All that is lent to an hour besides the table.
-fn lent_long(
-    users: usize,
-    amounts: &Amounts,
-    quantity: &[i64],
-    money: &[i64],
-    scratch: &[u64],
-) -> bool
-    ensures { result ≡ lent_long users amounts.now quantity.now money.now scratch.now }
+fn lent_long(users: usize, amounts: &Amounts, outputs: &Outputs, scratch: &[u64]) -> bool
+    ensures { result ≡ lent_long users amounts.now outputs.now scratch.now }
 {
     amounts.entries.len() == users
         && amounts.exits.len() == users
         && amounts.titles.len() == users
         && amounts.poolings.len() == users
-        && filled_long(users, quantity, money, scratch)
+        && filled_long(users, outputs, scratch)
 }
 
 // All the lengths of an hour.
@@ -71,15 +66,14 @@ fn hour_lists_long(
     day: Day,
     table: &[i64],
     amounts: &Amounts,
-    quantity: &[i64],
-    money: &[i64],
+    outputs: &Outputs,
     scratch: &[u64],
 ) -> bool
     ensures { result ≡ hour_lists_long day table.now amounts.now
-        quantity.now money.now scratch.now }
+        outputs.now scratch.now }
 {
     let users = integers::natural(day.users);
-    table.len() == 256 && lent_long(users, amounts, quantity, money, scratch)
+    table.len() == 256 && lent_long(users, amounts, outputs, scratch)
 }
 
 #[tactic(auto, using(crate::proofs::Lengths::hour_tabled), unfolding(rules::specs::Causes::hour_cause, rules::specs::Causes::hour_long))]
@@ -88,16 +82,15 @@ pub fn hour_cause(
     table: &[i64],
     terms: HourTerms,
     amounts: &Amounts,
-    quantity: &[i64],
-    money: &[i64],
+    outputs: &Outputs,
     scratch: &[u64],
 ) -> Result<(), Cause>
     ensures { result ≡ hour_cause day table.now
         (hour_given terms amounts.now
-        quantity.now money.now scratch.now) }
+        outputs.now scratch.now) }
 {
     require(day_record::day_fit(day), Cause::Record)?;
-    let long = hour_lists_long(day, table, amounts, quantity, money, scratch);
+    let long = hour_lists_long(day, table, amounts, outputs, scratch);
     require(long, Cause::Lengths)?;
     require(ranges::zone_fit(terms.zone), Cause::Zone)?;
     require(zone_open(terms.zone, day), Cause::Closed)?;
@@ -111,11 +104,11 @@ pub fn hour_cause(
 
 // All the lengths of a closing.
 #[tactic(auto, unfolding(rules::specs::Causes::table_long, rules::specs::Causes::list_long, rules::specs::Days::users))]
-fn closing_lists_long(day: Day, table: &[i64], quantity: &[i64], money: &[i64]) -> bool
-    ensures { result ≡ closing_lists_long day table.now quantity.now money.now }
+fn closing_lists_long(day: Day, table: &[i64], outputs: &Outputs) -> bool
+    ensures { result ≡ closing_lists_long day table.now outputs.now }
 {
     let users = integers::natural(day.users);
-    table.len() == 256 && quantity.len() == users && money.len() == users
+    table.len() == 256 && outputs.quantity.len() == users && outputs.money.len() == users
 }
 
 #[tactic(auto, using(crate::proofs::Lengths::closing_tabled), unfolding(rules::specs::Causes::closing_cause, rules::specs::Causes::closing_long))]
@@ -123,17 +116,13 @@ pub fn closing_cause(
     day: Day,
     table: &[i64],
     terms: ClosingTerms,
-    quantity: &[i64],
-    money: &[i64],
+    outputs: &Outputs,
 ) -> Result<(), Cause>
     ensures { result ≡ closing_cause day table.now
-        (closing_given terms quantity.now money.now) }
+        (closing_given terms outputs.now) }
 {
     require(day_record::day_fit(day), Cause::Record)?;
-    require(
-        closing_lists_long(day, table, quantity, money),
-        Cause::Lengths,
-    )?;
+    require(closing_lists_long(day, table, outputs), Cause::Lengths)?;
     require(ranges::zone_fit(terms.zone), Cause::Zone)?;
     require(zone_open(terms.zone, day), Cause::Closed)?;
     require(day_record::all_done(day, terms), Cause::Hour)?;

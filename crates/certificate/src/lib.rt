@@ -1,6 +1,9 @@
 // The certificate: every promise to the user that is a theorem of the definitions, each as the contract of a function that does nothing. The gate proves every function, so it asks for
 // every theorem: where a proof is missing, its function here is not proved.
 //
+// `using` above a function names its theorem's proof. A function without that line has a file in proofs/ that does: the proof's name has a dash, which `using` does not take, the search
+// does not get from the proof to the contract, or it does without (`CauseGiven`).
+//
 // That the calls do what the definitions say is each call's own contract, an equation for the answer and for every lent area, refused or accepted: `open`, `default_thresholds`,
 // `settle_hour` and `close_zone` in the crate `gas_day`, `read_hour_file` in `allocation_file`, `write_hour_file` in `allocation_writer`. A theorem below holds of the calls because it
 // holds of those definitions.
@@ -25,11 +28,13 @@ ghost use Rattle.cases.specs.Examples.{WholeDays, TwelveUsers, Defaults};
 // ---- the initial state
 
 // "The Gas Day shall be shown to begin at zero, not supposed to."
+#[tactic(auto, using(rules::proofs::Guarantees::begins_at_zero))]
 pub fn the_gas_day_begins_at_zero()
     ensures { BeginsAtZero }
 {}
 
 // Document 02: "Opening must be told 23, 24 or 25 and the day record keeps it."
+#[tactic(auto, using(rules::proofs::Guarantees::length_kept))]
 pub fn the_day_keeps_its_length()
     ensures { LengthKept }
 {}
@@ -37,6 +42,7 @@ pub fn the_day_keeps_its_length()
 // ---- demand 2: what is accepted, and what is refused
 
 // "an hour or closing is accepted if and only if no listed cause exists"
+#[tactic(auto, using(rules::proofs::Guarantees::accepted_if_fit))]
 pub fn hours_and_closings_are_accepted_if_fit()
     ensures { AcceptedIfFit }
 {}
@@ -47,11 +53,13 @@ pub fn files_are_read_if_they_obey()
 {}
 
 // Document 01: "For 14 to 16 the lines are taken in turn; within one line 14, then 15, then 16."
+#[tactic(auto, using(file_guarantees::proofs::Guarantees::first_fault_decides))]
 pub fn the_first_fault_decides()
     ensures { FirstFaultDecides }
 {}
 
 // Document 01: "It answers h, z as the zone's number, and the number of lines."
+#[tactic(auto, using(file_guarantees::proofs::Guarantees::accepted_obeys))]
 pub fn an_accepted_file_obeys()
     ensures { AcceptedObeys }
 {}
@@ -68,11 +76,13 @@ pub fn the_numbers_of_a_line_are_small()
 
 // Document 02: "A field without a point still means kWh. A field with a point has one to six digits before it, written as whole numbers are, with 0 allowed there"; "exactly three decimals, so 12.345
 // means 12,345 kWh"; "the reading rule covers both": a field is read as an amount if and only if it has that amount in one of the two forms.
+#[tactic(auto, using(file_guarantees::proofs::Guarantees::two_forms))]
 pub fn an_amount_has_one_of_two_forms()
     ensures { TwoForms }
 {}
 
 // Document 02: "the last four fields in MWh": no other field of a line that is read has a point.
+#[tactic(auto, using(file_guarantees::proofs::Guarantees::points_in_amounts))]
 pub fn only_amounts_have_points()
     ensures { PointsInAmounts }
 {}
@@ -80,16 +90,19 @@ pub fn only_amounts_have_points()
 // ---- the writer of the hour's file
 
 // Document 02: "Every amount of up to nine digits can be written": a file is written if and only if none of the causes 18 to 20 exists.
+#[tactic(auto, using(writer_guarantees::proofs::Guarantees::written_if_fit))]
 pub fn files_are_written_if_fit()
     ensures { WrittenIfFit }
 {}
 
 // Document 02: "New numbers: 18 .. then 19 .. then 20"
+#[tactic(auto, using(writer_guarantees::proofs::Guarantees::cause_of_three))]
 pub fn a_refused_writing_has_a_cause()
     ensures { CauseOfThree }
 {}
 
 // Document 02: "20 if the lent bytes are too few". So many are never too few: 25, and 61 for each of 128 lines.
+#[tactic(auto, using(writer_guarantees::proofs::Guarantees::enough_bytes))]
 pub fn so_many_bytes_are_enough()
     ensures { EnoughBytes }
 {}
@@ -113,16 +126,19 @@ pub fn a_file_in_kwh_has_one_text()
 
 // "no kilowatt-hour has appeared or vanished at the list's end: for each zone and user, all amounts of the hours accepted equal all quantities answered by accepted hours and closings,
 // plus the position standing in the table". Document 02: "The conservation rule is shown once for all lengths."
+#[tactic(auto, using(rules::proofs::Guarantees::conservation))]
 pub fn no_kilowatt_hour_appears_or_vanishes()
     ensures { Conservation }
 {}
 
 // "a zone whose closing was accepted holds zero in every place"
+#[tactic(auto, using(rules::proofs::Guarantees::closed_is_zero))]
 pub fn a_closed_zone_holds_zero()
     ensures { ClosedIsZero }
 {}
 
 // Document 01: opening answers a record with "no zone closed", and at a closing "the zone is marked closed". No other call marks a zone.
+#[tactic(auto, using(rules::proofs::Guarantees::closed_is_marked))]
 pub fn a_closed_zone_is_marked_and_no_other()
     ensures { ClosedIsMarked }
 {}
@@ -141,21 +157,25 @@ pub fn the_outcome_goes_by_the_thresholds()
 {}
 
 // Rule 3: "In an excess the causing users are those with a position above zero; in a shortfall, those below zero." These are marked, "and the number of marks is answered".
+#[tactic(auto, using(rules::proofs::Guarantees::marks_are_causers))]
 pub fn the_marks_are_the_causers()
     ensures { MarksAreCausers }
 {}
 
 // Rule 4: "Each gets the share rounded down. The kWh then left over go one each to the causers with the largest fractions": so all is shared, and no more.
+#[tactic(auto, using(largest_remainder::proofs::Guarantees::adds_up))]
 pub fn settled_sizes_add_to_the_total()
     ensures { AddsUp }
 {}
 
 // Rule 4: "a settled size is less than 1 kWh from it when that size times the sum differs from the product by less than the sum"
+#[tactic(auto, using(largest_remainder::proofs::Guarantees::accurate))]
 pub fn a_settled_size_is_near_the_exact_share()
     ensures { Accurate }
 {}
 
 // Rule 5, of the position after: "It may reach zero and never crosses it."
+#[tactic(auto, using(largest_remainder::proofs::Guarantees::no_more_than_size))]
 pub fn nobody_is_settled_for_more_than_its_size()
     ensures { NoMoreThanSize }
 {}
@@ -163,11 +183,13 @@ pub fn nobody_is_settled_for_more_than_its_size()
 // ---- the record at the boundary to C, where whether a zone is closed is a number, 0 or 1
 
 // "each gets the record that the last call returned": a record that a call answers to C is, given to the next call, the record of the rules.
+#[tactic(auto, using(record_c::proofs::Guarantees::record_kept))]
 pub fn a_record_comes_back_from_c_as_it_went()
     ensures { RecordKept }
 {}
 
 // "Every public call accepts every input, checks it itself": a record with another number there is cause 2, and comes back as it was given.
+#[tactic(auto, using(flat::proofs::Guarantees::odd_mark_refused))]
 pub fn a_record_with_an_odd_mark_is_refused()
     ensures { OddMarkRefused }
 {}
@@ -175,27 +197,32 @@ pub fn a_record_with_an_odd_mark_is_refused()
 // ---- figures
 
 // Document 01: "Cases A to K, A by its reading and its settled numbers, stand as one list with a single proof over the definitions"
+#[tactic(auto, using(cases::proofs::Figures::all_figures))]
 pub fn cases_a_to_k_hold()
     ensures { AllFigures }
 {}
 
 // Document 01: "Hour 24 is settled like any other before this." A day of 23, one of 24 and one of 25 hours with refused calls in it, and its closing: what the theorems on lists speak of
 // is there.
+#[tactic(auto, using(cases::proofs::Figures::whole_days))]
 pub fn whole_days_can_be_run()
     ensures { WholeDays }
 {}
 
 // Rule 4 among twelve users: "the largest fractions; among equal fractions, the lower place first".
+#[tactic(auto, using(cases::proofs::Figures::twelve_users))]
 pub fn twelve_users_share_by_fractions()
     ensures { TwelveUsers }
 {}
 
 // Document 01: "January to December, upper threshold; the lower one is its negation."
+#[tactic(auto, using(cases::proofs::Figures::defaults))]
 pub fn lower_defaults_are_negated()
     ensures { Defaults }
 {}
 
 // Document 01, of case A's file: the reader "fills the first as many as there are lines and touches no others".
+#[tactic(auto, using(file_guarantees::proofs::Examples::case_a_lem))]
 pub fn case_a_is_read()
     ensures { CaseA }
 {}
@@ -206,6 +233,7 @@ pub fn small_files_are_read_as_decided()
 {}
 
 // Document 02: "Write the file of document 01". Of case A's lists it is case A's file;
+#[tactic(auto, using(writer_guarantees::proofs::Examples::case_a_written))]
 pub fn case_a_is_written()
     ensures { CaseAWritten }
 {}
@@ -221,16 +249,19 @@ pub fn small_contents_are_refused_as_decided()
 {}
 
 // The program's text: "all plain decimals", up to the ends of 64 bits;
+#[tactic(auto, using(text::proofs::Examples::decimals_shown))]
 pub fn decimals_are_shown()
     ensures { DecimalsShown }
 {}
 
 // of case A, "Output, whole";
+#[tactic(auto, using(report::proofs::Examples::case_a_shown))]
 pub fn case_a_is_shown()
     ensures { CaseAShown }
 {}
 
 // and of a refusal "the one line `refused,` with the number and nothing more".
+#[tactic(auto, using(report::proofs::Examples::refusal_shown))]
 pub fn a_refusal_is_shown()
     ensures { RefusalShown }
 {}

@@ -9,7 +9,7 @@ const FAR: i64 = 1_000_000_000_000_000;
 fn near(x: i64) -> bool
     ensures { result ≡ near x }
 {
-    -FAR <= x && x <= FAR
+    integers::within(-FAR, FAR, x)
 }
 
 // The sum of two numbers that are near, else a number that is not.
@@ -24,8 +24,8 @@ pub fn plus(a: i64, b: i64) -> i64
 pub fn add(sums: &mut [i64], list: &[i64])
     ensures { sums.new ≡ added sums.old list.now }
 {
-    for i in 0..sums.len() {
-        sums[i] = plus(sums[i], super::at(list, i));
+    for (i, sum) in sums.iter_mut().enumerate() {
+        *sum = plus(*sum, super::at(list, i));
     }
 }
 

@@ -3,7 +3,9 @@ use Rattle.std.specs.Prelude.{◌≡◌, true, cond, List, ℕ, ◌≤◌, ℤ, 
 use Rattle.std.specs.Int.Signed.{lt_z}
 use Rattle.integers.specs.Lists.{every}
 use Rattle.rules.specs.declared.ClosingTerms.{ClosingTerms}
+use Rattle.rules.specs.declared.Outputs.{Outputs}
 use Rattle.rules.specs.Limits.{users_most, position_fit}
+use Rattle.rules.specs.Hours.{Same}
 use Rattle.rules.specs.Days.{part, with_part}
 use Rattle.rules.specs.Market.{moneys, sold, bought}
 use Rattle.rules.specs.Causes.{prices_fit}
@@ -16,28 +18,29 @@ unfoldable pub bought_of : ℤ → ℤ
 bought_of q = cond (lt_z q (pos 0)) (neg_ℤ q) (pos 0)
 
 -- of a zone's part p, with a place for each user
-pub record Asks (p : List ℤ) (k : ClosingTerms) (q m : List ℤ) : Type 0 where
-  pub few : length q ≤ users_most
-  pub room : length q ≤ length p
-  pub moneys : length m ≡ length q
+pub record Asks (p : List ℤ) (k : ClosingTerms) (o : Outputs) : Type 0 where
+  pub few : length o.quantity.now ≤ users_most
+  pub room : length o.quantity.now ≤ length p
+  pub moneys : length o.money.now ≡ length o.quantity.now
   pub positions : every position_fit p ≡ true
   pub prices : prices_fit k.excess_price k.shortfall_price ≡ true
 
 -- of n users at the first places of the part p
-pub record Leaves (n : ℕ) (p : List ℤ) (k : ClosingTerms) (q' m' : List ℤ) (s b : ℤ) : Type 0 where
-  pub quantity : q' ≡ take n p
-  pub money : m' ≡ moneys k.excess_price k.shortfall_price (take n p)
+pub record Leaves (n : ℕ) (p : List ℤ) (k : ClosingTerms) (o o' : Outputs) (s b : ℤ) : Type 0 where
+  pub same : Same o o'
+  pub quantity : o'.quantity.now ≡ take n p
+  pub money : o'.money.now ≡ moneys k.excess_price k.shortfall_price (take n p)
   pub sold : s ≡ sold (take n p)
   pub bought : b ≡ bought (take n p)
 
-pub record PartLeaves (n : ℕ) (p p' : List ℤ) (k : ClosingTerms) (q' m' : List ℤ) (s b : ℤ) : Type 0 where
-  pub lists : Leaves n p k q' m' s b
+pub record PartLeaves (n : ℕ) (p p' : List ℤ) (k : ClosingTerms) (o o' : Outputs) (s b : ℤ) : Type 0 where
+  pub lists : Leaves n p k o o' s b
   pub places : p' ≡ replicate (length p) (pos 0)
 
-pub record TableAsks (tb : List ℤ) (k : ClosingTerms) (q m : List ℤ) : Type 0 where
+pub record TableAsks (tb : List ℤ) (k : ClosingTerms) (o : Outputs) : Type 0 where
   pub long : length tb ≡ 256
-  pub lists : Asks (part k.zone tb) k q m
+  pub lists : Asks (part k.zone tb) k o
 
-pub record TableLeaves (n : ℕ) (tb tb' : List ℤ) (k : ClosingTerms) (q' m' : List ℤ) (s b : ℤ) : Type 0 where
-  pub lists : Leaves n (part k.zone tb) k q' m' s b
+pub record TableLeaves (n : ℕ) (tb tb' : List ℤ) (k : ClosingTerms) (o o' : Outputs) (s b : ℤ) : Type 0 where
+  pub lists : Leaves n (part k.zone tb) k o o' s b
   pub table : tb' ≡ with_part k.zone (λ p. replicate 128 (pos 0)) tb

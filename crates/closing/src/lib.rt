@@ -8,7 +8,7 @@ ghost use Rattle.rules.specs.Limits.{users_most, position_most, price_most};
 ghost use Rattle.rules.specs.Market.{money_of, moneys, sold, bought};
 ghost use Rattle.closing.specs.Steps.{sold_of, bought_of, Asks, PartLeaves, TableAsks, TableLeaves};
 
-use rules::ClosingTerms;
+use rules::{ClosingTerms, Outputs};
 
 // What was sold and bought, both as sizes.
 #[derive(Clone, Copy)]
@@ -57,9 +57,8 @@ fn money_all(excess_price: i64, shortfall_price: i64, quantity: &[i64], money: &
         × (length money.old ≡ length quantity.now) × AtMost position_most quantity.now }
     ensures { money.new ≡ moneys excess_price shortfall_price quantity.now }
 {
-    // By index: a `zip` over `iter_mut` leaves its loop without a name for the list that is written, which the invariant needs.
-    for i in 0..quantity.len() {
-        money[i] = money_of(excess_price, shortfall_price, quantity[i]);
+    for (i, paid) in money.iter_mut().enumerate() {
+        *paid = money_of(excess_price, shortfall_price, quantity[i]);
     }
 }
 
@@ -80,38 +79,34 @@ fn sums_of(quantity: &[i64]) -> Sums
 // ---- a zone
 
 // The users' places are the first of the part; all its places become zero.
-fn close_part(
-    part: &mut [i64],
-    terms: ClosingTerms,
-    quantity: &mut [i64],
-    money: &mut [i64],
-) -> Sums
-    requires { Asks part.old terms quantity.old money.old }
-    ensures { PartLeaves (length quantity.old) part.old part.new terms
-        quantity.new money.new result.sold result.bought }
+fn close_part(part: &mut [i64], terms: ClosingTerms, outputs: &mut Outputs) -> Sums
+    requires { Asks part.old terms outputs.old }
+    ensures { PartLeaves (length outputs.old.quantity.now) part.old part.new terms
+        outputs.old outputs.new result.sold result.bought }
 {
-    let users = quantity.len();
-    quantity.copy_from_slice(&part[..users]);
-    money_all(terms.excess_price, terms.shortfall_price, quantity, money);
+    let users = outputs.quantity.len();
+    let quantity = &part[..users];
+    outputs.quantity.copy_from_slice(quantity);
+    money_all(
+        terms.excess_price,
+        terms.shortfall_price,
+        quantity,
+        outputs.money,
+    );
     let sums = sums_of(quantity);
     part.fill(0);
     sums
 }
 
-// A closing works on its zone's part of the table and leaves the other part untouched.
-pub fn close_table(
-    table: &mut [i64],
-    terms: ClosingTerms,
-    quantity: &mut [i64],
-    money: &mut [i64],
-) -> Sums
-    requires { TableAsks table.old terms quantity.old money.old }
-    ensures { TableLeaves (length quantity.old) table.old table.new terms
-        quantity.new money.new result.sold result.bought }
+// A closing works on its zone's part of the table and leaves the other part untouched: a branch for each part, as for an hour (`settlement::settle_table`).
+pub fn close_table(table: &mut [i64], terms: ClosingTerms, outputs: &mut Outputs) -> Sums
+    requires { TableAsks table.old terms outputs.old }
+    ensures { TableLeaves (length outputs.old.quantity.now) table.old table.new terms
+        outputs.old outputs.new result.sold result.bought }
 {
     if terms.zone == 0 {
-        close_part(&mut table[0..128], terms, quantity, money)
+        close_part(&mut table[0..128], terms, outputs)
     } else {
-        close_part(&mut table[128..256], terms, quantity, money)
+        close_part(&mut table[128..256], terms, outputs)
     }
 }

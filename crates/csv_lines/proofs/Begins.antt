@@ -1,18 +1,30 @@
--- What the test of the first bytes says of them, and that the library's test is the same. Assumes nothing.
+-- The test of the first bytes, byte by byte, what it says of them, and that the library's test is the same. Assumes nothing.
 use mathlib.Core.Path.{◌≡◌, refl, sym}
-use mathlib.Core.Bool.{Bool, true, false≢true}
+use mathlib.Core.Bool.{Bool, true, false, false≢true}
 use mathlib.Core.List.{List, [], ◌∷◌}
-use Prim.Native.Nat.{ℕ}
+use Prim.Native.Nat.{ℕ, ◌+◌, ◌<◌}
+use native.Mathlib.Numerals.{add-one}
 use native.Mathlib.Omega.{arith}
 use lib.Dec.{eqb}
-use lib.ListN.{length, take}
-use borrow.Author.Tests.{eq-eqb, eqb-true}
+use lib.ListN.{length, get_or, take, drop}
+use lib.Seq.{drop-cons}
+use borrow.Author.Tests.{eq-eqb, ne_eqb, eqb-true}
 use Rattle.std.specs.Bool.{one_answer}
 use Rattle.std.specs.List.{starts_with}
 use Rattle.std.proofs.lemmas.Bool.Decides.{Decides-eqb}
 use Rattle.std.proofs.lemmas.Slice.Eq.{slice_eq-Decides}
 use Rattle.integers.proofs.Tests.{and_true}
 use Rattle.csv_lines.specs.Lines.{begins}
+
+-- ---- one byte further
+module _ (s head : List ℕ) (i : ℕ) (g : i < length head) (f : i < length s) where
+  -- the bytes differ
+  pub begins_not : (get_or s i 0 ≡ get_or head i 0 → ⊥) → begins (drop i s) (drop i head) ≡ false
+  begins_not e = rw (drop-cons s i 0, drop-cons head i 0, ne_eqb _ _ e)
+
+  -- the bytes are the same
+  pub begins_on : get_or s i 0 ≡ get_or head i 0 → begins (drop i s) (drop i head) ≡ begins (drop (i + 1) s) (drop (i + 1) head)
+  begins_on e = rw (add-one, drop-cons s i 0, drop-cons head i 0, eq-eqb _ _ e)
 
 -- ---- what the first bytes are then
 -- those of the head

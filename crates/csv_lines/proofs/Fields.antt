@@ -60,9 +60,17 @@ field_len_lem (x ∷ xs) = end_within (eqb x comma) (field_len xs) (length xs) (
 pub field_within : (l : List ℕ) (at : ℕ) → at ≤ length l → at + field_len (drop at l) ≤ length l
 field_within = part_within field_len field_len_lem
 
--- ---- one byte further, in a loop that counts the fields
+-- ---- one byte further
 module _ (l : List ℕ) (i : ℕ) (h : i < length l) where
-  -- a comma
+  -- the field ends here
+  pub comma_here : get_or l i 0 ≡ comma → field_len (drop i l) ≡ 0
+  comma_here e = rw (drop-cons l i 0, eq-eqb _ _ e)
+
+  -- the field goes on
+  pub comma-later : (get_or l i 0 ≡ comma → ⊥) → field_len (drop i l) ≡ suc (field_len (drop (i + 1) l))
+  comma-later e = rw (add-one, drop-cons l i 0, ne_eqb _ _ e)
+
+  -- a field more
   pub count-comma : get_or l i 0 ≡ comma → length (fields (drop i l)) ≡ suc (length (fields (drop (i + 1) l)))
   count-comma e = rw (add-one, drop-cons l i 0, eq-eqb _ _ e)
 

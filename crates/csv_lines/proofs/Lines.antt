@@ -1,14 +1,22 @@
--- That a line is within the bytes, and how the lines go on after the first. Assumes nothing.
+-- Where a line ends, that it is within the bytes, and how the lines go on after the first. Assumes nothing.
 use mathlib.Core.Path.{◌≡◌, refl}
 use mathlib.Core.Bool.{Bool, true, false}
 use mathlib.Core.List.{List, [], ◌∷◌}
 use Prim.Native.Nat.{ℕ, suc, ◌+◌, ◌≤◌, ◌<◌}
 use native.Mathlib.Nat.{suc-add}
+use native.Mathlib.Numerals.{add-one}
 use native.Mathlib.Omega.{arith}
-use lib.ListN.{length, take, drop, length-drop, drop_of_length-le}
-use lib.Seq.{drop-drop, length-take-le}
+use lib.ListN.{length, get_or, take, drop, length-drop, drop_of_length-le}
+use lib.Seq.{drop-cons, drop-drop, length-take-le}
+use Rattle.text.specs.Bytes.{carriage_return, line_feed}
 use Rattle.csv_lines.specs.Lines.{is_pair, at_byte, lines}
 use Rattle.csv_lines.specs.Steps.{unless_end, line_len, line_at}
+
+-- ---- a line ends at a pair
+pub pair_here : (s : List ℕ) (i : ℕ) → i + 1 < length s → get_or s i 0 ≡ carriage_return → get_or s (i + 1) 0 ≡ line_feed → line_len (drop i s) ≡ 0
+pair_here s i h e f =
+    let g : i < length s = omega arith in
+    rw (drop-cons s i 0 g, ← add-one i, drop-cons s (i + 1) 0 h, e, f)
 
 -- ---- a line is within the bytes
 pub end_within : (b : Bool) (n m : ℕ) → n ≤ m → unless_end b n ≤ suc m

@@ -19,7 +19,7 @@ fn hours_of_day(day: Day) -> i64
     day.length
 }
 
-// A zone's part of the record.
+// A zone's part of the record. (The zone stays a number in this crate: the definitions are of every number, and a narrower type would ask more.)
 #[tactic(auto, unfolding(rules::specs::Days::zone_day))]
 fn zone_day(zone: i64, day: Day) -> ZoneDay
     ensures { result ≡ zone_day zone day }

@@ -7,7 +7,7 @@ use checking::{all_are, lent, put};
 use integers::natural;
 use printing::Line;
 use ranges::limits::{Kind, Position, Price};
-use rules::{ClosingDone, ClosingTerms, Day, Refusal};
+use rules::{ClosingDone, ClosingTerms, Day, Outputs, Refusal};
 use std::io;
 
 const POSITION: i64 = Position::MOST;
@@ -172,12 +172,15 @@ fn close(row: &Row, lists: &mut Lists) -> Result<ClosingDone, Refusal> {
         excess_price: row[7],
         shortfall_price: row[8],
     };
+    let mut outputs = Outputs {
+        quantity: lent(&mut lists.quantity, 0, natural(row[10])),
+        money: lent(&mut lists.money, 0, natural(row[11])),
+    };
     gas_day::close_zone(
         day(row),
         lent(&mut lists.table, 0, natural(row[9])),
         terms,
-        lent(&mut lists.quantity, 0, natural(row[10])),
-        lent(&mut lists.money, 0, natural(row[11])),
+        &mut outputs,
     )
 }
 

@@ -5,7 +5,7 @@
 #![tactic(auto)]
 
 use allocation_file::FileRead;
-use allocation_row::FileCause;
+use allocation_row::{FileCause, Lists};
 use checking::{all_are, at, lent, rest};
 use integers::natural;
 use printing::{Line, Text};
@@ -93,19 +93,19 @@ fn file_of(lines: i64, ended: i64, content: &Content) -> File {
     file
 }
 
-// ---- the lists that are lent to the call
+// ---- the lists that are lent to the call, and a place more of each
 
 #[derive(Drop)]
-struct Lists {
+struct Area {
     entries: [i64; 129],
     exits: [i64; 129],
     titles: [i64; 129],
     poolings: [i64; 129],
 }
 
-impl Lists {
+impl Area {
     fn before() -> Self {
-        Lists {
+        Area {
             entries: [LENT_ENTRY; 129],
             exits: [LENT_EXIT; 129],
             titles: [LENT_TITLE; 129],
@@ -132,41 +132,41 @@ impl Lists {
 // ---- the call
 
 // The first line's amounts, and what is compared.
-fn say_read(line: &mut Line, read: FileRead, lists: &Lists) {
+fn say_read(line: &mut Line, read: FileRead, area: &Area) {
     let numbers = [
         read.hour,
         read.zone,
         read.lines,
-        lists.entries[0],
-        lists.exits[0],
-        lists.titles[0],
-        lists.poolings[0],
+        area.entries[0],
+        area.exits[0],
+        area.titles[0],
+        area.poolings[0],
     ];
     line.say_row(b": hour |, zone |, lines |, first | | | |", &numbers);
-    line.say_holds(b"rest kept", lists.kept_from(natural(read.lines)));
+    line.say_holds(b"rest kept", area.kept_from(natural(read.lines)));
 }
 
-fn say_answer(line: &mut Line, answer: Result<FileRead, FileCause>, lists: &Lists) {
+fn say_answer(line: &mut Line, answer: Result<FileRead, FileCause>, area: &Area) {
     match answer {
         Err(cause) => {
             line.say_refused(cause.number());
-            lists.say_kept(line);
+            area.say_kept(line);
         }
-        Ok(read) => say_read(line, read, lists),
+        Ok(read) => say_read(line, read, area),
     }
 }
 
 // The file is read into lists of so many places, and the answer is said after the case, which stands in the line.
 fn read(rt: &impl Print, line: &mut Line, file: &[u8], places: &[i64]) -> io::Result<()> {
-    let mut lists = Lists::before();
-    let answer = allocation_file::read_hour_file(
-        file,
-        lent(&mut lists.entries, 0, natural(at(places, 0))),
-        lent(&mut lists.exits, 0, natural(at(places, 1))),
-        lent(&mut lists.titles, 0, natural(at(places, 2))),
-        lent(&mut lists.poolings, 0, natural(at(places, 3))),
-    );
-    say_answer(line, answer, &lists);
+    let mut area = Area::before();
+    let mut lists = Lists {
+        entries: lent(&mut area.entries, 0, natural(at(places, 0))),
+        exits: lent(&mut area.exits, 0, natural(at(places, 1))),
+        titles: lent(&mut area.titles, 0, natural(at(places, 2))),
+        poolings: lent(&mut area.poolings, 0, natural(at(places, 3))),
+    };
+    let answer = allocation_file::read_hour_file(file, &mut lists);
+    say_answer(line, answer, &area);
     line.say_byte(b'\n');
     rt.write_all(line.as_bytes())
 }

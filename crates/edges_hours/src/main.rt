@@ -6,7 +6,7 @@
 use checking::{all_are, at, first, lent, part, put, sums};
 use integers::natural;
 use printing::Line;
-use rules::{Amounts, Day, HourDone, HourTerms, Marks, Outcome, Refusal, Side};
+use rules::{Amounts, Day, HourDone, HourTerms, Marks, Outcome, Outputs, Refusal, Side};
 use std::io;
 
 mod rows;
@@ -131,13 +131,16 @@ fn settle(sheet: &Sheet, lists: &mut Lists) -> Result<HourDone, Refusal> {
         titles: sheet.list(rows::TITLE, sheet.size(2)),
         poolings: sheet.list(rows::POOLING, sheet.size(3)),
     };
+    let mut outputs = Outputs {
+        quantity: lent(&mut lists.quantity, 0, sheet.size(4)),
+        money: lent(&mut lists.money, 0, sheet.size(5)),
+    };
     gas_day::settle_hour(
         sheet.day(),
         lent(&mut lists.table, 0, natural(sheet.number(rows::TABLE_SIZE))),
         sheet.terms(),
         &amounts,
-        lent(&mut lists.quantity, 0, sheet.size(4)),
-        lent(&mut lists.money, 0, sheet.size(5)),
+        &mut outputs,
         lent(&mut lists.scratch, 0, sheet.size(6)),
     )
 }

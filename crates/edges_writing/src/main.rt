@@ -4,7 +4,7 @@
 #![tactic(auto)]
 
 use allocation_file::FileRead;
-use allocation_row::FileCause;
+use allocation_row::{FileCause, Lists};
 use allocation_writer::WriteCause;
 use checking::{all_are, first, lent, put, rest, sums};
 use integers::natural;
@@ -36,16 +36,16 @@ fn amounts_from(first: i64) -> [i64; 130] {
 
 // The amounts of a case, more than it has places for.
 #[derive(Drop)]
-struct Lists {
+struct Area {
     entries: [i64; 130],
     exits: [i64; 130],
     titles: [i64; 130],
     poolings: [i64; 130],
 }
 
-impl Lists {
+impl Area {
     fn of(row: &Row) -> Self {
-        Lists {
+        Area {
             entries: amounts_from(row[7]),
             exits: amounts_from(row[8]),
             titles: amounts_from(row[9]),
@@ -96,7 +96,13 @@ fn say_back(line: &mut Line, file: &[u8], amounts: &Amounts) {
     let mut b = [LENT; 128];
     let mut c = [LENT; 128];
     let mut d = [LENT; 128];
-    let answer = allocation_file::read_hour_file(file, &mut a, &mut b, &mut c, &mut d);
+    let mut lists = Lists {
+        entries: &mut a,
+        exits: &mut b,
+        titles: &mut c,
+        poolings: &mut d,
+    };
+    let answer = allocation_file::read_hour_file(file, &mut lists);
     let same = same(&a, amounts.entries)
         && same(&b, amounts.exits)
         && same(&c, amounts.titles)
@@ -132,8 +138,8 @@ fn write(row: &Row, amounts: &Amounts, room: &mut [u8]) -> Result<i64, WriteCaus
 }
 
 fn run(rt: &impl Print, row: &Row) -> io::Result<()> {
-    let lists = Lists::of(row);
-    let amounts = lists.amounts(row);
+    let area = Area::of(row);
+    let amounts = area.amounts(row);
     let mut room = [LENT_BYTE; 8192];
     let answer = write(row, &amounts, &mut room);
     let mut line = Line::new();

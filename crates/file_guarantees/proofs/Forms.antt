@@ -14,8 +14,10 @@ use Rattle.text.specs.Numbers.{digits_from, needless_zero, unsigned_of, has_poin
 use Rattle.text.proofs.Numbers.{number_if}
 use Rattle.text.proofs.Points.{parted, pointed, number_no_point}
 use Rattle.csv_lines.specs.Lines.{field_at}
-use Rattle.allocation_row.specs.Rows.{letter_h, letter_l, zone_of}
+use Rattle.allocation_row.specs.Rows.{letter, zone_of}
 use Rattle.allocation_row.specs.declared.Row.{Row}
+use Rattle.allocation_row.specs.declared.Zone.{Zone}
+use Rattle.allocation_row.specs.declared.Zone.TheVariants.{H, L}
 use Rattle.file_guarantees.specs.Guarantees.{Size, in_kwh, in_mwh, Means, unsigned, minus, NoPoints}
 use Rattle.file_guarantees.proofs.Rows.{MadeOf}
 
@@ -115,13 +117,13 @@ means_read (minus s) = rw (form_read s)
 -- ---- the other fields
 
 -- a zone's letter
-zone_no_point : (f : List ℕ) (z : ℕ) → zone_of f ≡ Some z → has_point f ≡ false
+zone_no_point : (f : List ℕ) (z : Zone) → zone_of f ≡ Some z → has_point f ≡ false
 zone_no_point [] z e = refl
-zone_no_point (x ∷ []) z e = go (eqb x letter_h) (eqb x letter_l) refl refl e
+zone_no_point (x ∷ []) z e = go (eqb x (letter H)) (eqb x (letter L)) refl refl e
   where
-    go : (a b : Bool) → eqb x letter_h ≡ a → eqb x letter_l ≡ b → cond a (Some 0) (cond b (Some 1) None) ≡ Some z → has_point (x ∷ []) ≡ false
-    go true b h l e = rw (eqb-true x letter_h h)
-    go false true h l e = rw (eqb-true x letter_l l)
+    go : (a b : Bool) → eqb x (letter H) ≡ a → eqb x (letter L) ≡ b → cond a (Some H) (cond b (Some L) None) ≡ Some z → has_point (x ∷ []) ≡ false
+    go true b h l e = rw (eqb-true x (letter H) h)
+    go false true h l e = rw (eqb-true x (letter L) l)
     go false false h l e = let q : ◌≡◌ {A = ℕ} 0 1 = cc in absurd (omega arith)
 zone_no_point (x ∷ y ∷ ys) z e = let q : ◌≡◌ {A = ℕ} 0 1 = cc in absurd (omega arith)
 

@@ -6,7 +6,7 @@ use native.Mathlib.Omega.{arith}
 use lib.IntN.{pos}
 use lib.ListN.{length, length-map}
 use Rattle.std.specs.Prelude.{Ok}
-use Rattle.allocation_row.specs.Rows.{row_of}
+use Rattle.allocation_row.specs.Rows.{zone_number, row_of}
 use Rattle.allocation_row.specs.declared.FileCause.TheVariants.{Lists}
 use Rattle.allocation_lines.specs.Turns.{File, refused, read}
 use Rattle.allocation_file.specs.File.{lines_of, file_of, all128, outcome, answer_of}
@@ -35,7 +35,7 @@ accepted_obeys s a b c d f = lists (all128 (length a) (length b) (length c) (len
     file (refused n) o e = let q : ◌≡◌ {A = ℕ} 0 1 = cc in absurd (omega arith)
     file (read h z rows) o e =
         let n : length (lines_of s) ≡ length rows = sym (length-map (lines_of s) row_of) ∙ ap length o.standing.each ∙ length-map rows Ok in
-        let q : ◌≡◌ {A = FileRead} f (record { hour = pos h; zone = pos z; lines = pos (length rows) }) = cc in
+        let q : ◌≡◌ {A = FileRead} f (record { hour = pos h; zone = pos (zone_number z); lines = pos (length rows) }) = cc in
         record {
           h = h;
           z = z;

@@ -2,7 +2,7 @@
 use mathlib.Core.Path.{◌≡◌, refl}
 use mathlib.Core.Bool.{Bool, true, false, cond}
 use mathlib.Core.List.{List, [], ◌∷◌}
-use Prim.Native.Nat.{ℕ, zero, suc, ◌^◌, ◌≤◌, ◌<◌}
+use Prim.Native.Nat.{ℕ, zero, suc, ◌^◌, ◌<◌}
 use native.Mathlib.Omega.{arith}
 use lib.Dec.{eqb, leb}
 use lib.IntN.{ℤ, nat_abs}
@@ -13,9 +13,11 @@ use Rattle.text.specs.Bytes.{minus_sign}
 use Rattle.text.specs.Numbers.{digits_from, unsigned_of, has_point, before_point, after_point, whole_of, decimals_of, mwh_of, size_of, positive, negative, amount_of}
 use Rattle.text.proofs.Numbers.{digits-below, unsigned_below}
 use Rattle.csv_lines.specs.Lines.{field_at}
-use Rattle.allocation_row.specs.Rows.{letter_h, letter_l, zone_of, is_form, as_row, fields_of, row_of}
+use Rattle.allocation_row.specs.Rows.{zone_of, is_form, as_row, fields_of, row_of}
 use Rattle.allocation_row.specs.declared.Row.{Row}
+use Rattle.allocation_row.specs.declared.Zone.{Zone}
 use Rattle.allocation_row.specs.declared.FileCause.TheVariants.{Form, Field}
+use Rattle.allocation_row.proofs.Zones.{zone_most}
 use Rattle.file_guarantees.specs.Guarantees.{NineDigits}
 
 -- ---- how large a number is
@@ -70,19 +72,8 @@ amount_below (x ∷ xs) = signed (eqb x minus_sign)
     signed true = minus (size_of xs) (size_below xs)
     signed false = plus (size_of (x ∷ xs)) (size_below (x ∷ xs))
 
--- a zone's number
-zone-below : (f : List ℕ) → IfSome (zone_of f) (λ n. n ≤ 1)
-zone-below [] = tt
-zone-below (x ∷ []) = letter (eqb x letter_h) (eqb x letter_l)
-  where
-    letter : (a b : Bool) → IfSome (cond a (Some 0) (cond b (Some 1) None)) (λ n. n ≤ 1)
-    letter true b = omega arith
-    letter false true = omega arith
-    letter false false = tt
-zone-below (x ∷ y ∷ ys) = tt
-
 -- ---- what the seven fields say together: nothing, or a row of their numbers
-pub record Made (h z g : Option ℕ) (a b c d : Option ℤ) (r : Row) : Type 0 where
+pub record Made (h : Option ℕ) (z : Option Zone) (g : Option ℕ) (a b c d : Option ℤ) (r : Row) : Type 0 where
   pub hour : h ≡ Some r.hour
   pub zone : z ≡ Some r.zone
   pub place : g ≡ Some r.place
@@ -92,7 +83,7 @@ pub record Made (h z g : Option ℕ) (a b c d : Option ℤ) (r : Row) : Type 0 w
   pub pooling : d ≡ Some r.pooling
 
 -- the fields decide which
-made : (h z g : Option ℕ) (a b c d : Option ℤ) → IfSome (as_row h z g a b c d) (Made h z g a b c d)
+made : (h : Option ℕ) (z : Option Zone) (g : Option ℕ) (a b c d : Option ℤ) → IfSome (as_row h z g a b c d) (Made h z g a b c d)
 unfolding as_row
 made None z g a b c d = tt
 made (Some h) None g a b c d = tt
@@ -131,7 +122,7 @@ made_of l = go (is_form l)
 pub nine : (l : List ℕ) (r : Row) → MadeOf l r → NineDigits r
 nine l r m = record {
   hour = rw m.hour at (number_below (field_at 0 l));
-  zone = rw m.zone at (zone-below (field_at 1 l));
+  zone = zone_most r.zone;
   place = rw m.place at (number_below (field_at 2 l));
   entry = rw m.entry at (amount_below (field_at 3 l));
   exit = rw m.exit at (amount_below (field_at 4 l));

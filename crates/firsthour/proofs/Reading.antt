@@ -13,10 +13,13 @@ use Rattle.allocation_file.specs.declared.FileRead.{FileRead}
 use Rattle.allocation_row.specs.declared.Row.{Row}
 use Rattle.allocation_row.specs.declared.FileCause.{FileCause}
 use Rattle.allocation_row.specs.Causes.{number}
+use Rattle.allocation_row.specs.Rows.{zone_number}
 use Rattle.rules.proofs.Refusing.{not_refused}
 use Rattle.allocation_lines.specs.Turns.{File, refused, read}
 use Rattle.allocation_file.specs.File.{outcome, answer_of, list_of}
 use Rattle.file_guarantees.proofs.Guarantees.{accepted_obeys}
+use Rattle.text.specs.declared.writing.Writer.{Writer}
+use Rattle.text.specs.Puts.{Wrote}
 use Rattle.report.specs.Text.{refused_line}
 use Rattle.hour_text.specs.Opened.{opened_new}
 use Rattle.firsthour.specs.Printed.{of_file}
@@ -29,13 +32,15 @@ file_refused (read h z rows) e = absurd (not_refused e)
 rows_taken : (f : Row → ℤ) (rows : List Row) (xs : List ℤ) → take (length rows) (map f rows ++ drop (length rows) xs) ≡ map f rows
 rows_taken f rows xs = take_at (map f rows) (drop (length rows) xs) (length rows) (length-map rows f)
 
-pub file_read : (w : File) (a b c d : List ℤ) {f : FileRead} {n : ℕ} {a' b' c' d' : List ℤ} → Ok f ≡ answer_of w → n ≡ natural f.lines
+-- what is written of the lists after the call is the file's text
+pub file_read : {v v' : Writer} (w : File) (a b c d : List ℤ) {f : FileRead} {n : ℕ} {a' b' c' d' : List ℤ} → Ok f ≡ answer_of w → n ≡ natural f.lines
+    → Wrote v v' (opened_new f.hour f.zone (take n a') (take n b') (take n c') (take n d'))
     → a' ≡ list_of (λ r. r.entry) w a → b' ≡ list_of (λ r. r.exit) w b → c' ≡ list_of (λ r. r.title) w c → d' ≡ list_of (λ r. r.pooling) w d
-    → of_file w ≡ opened_new f.hour f.zone (take n a') (take n b') (take n c') (take n d')
+    → Wrote v v' (of_file w)
 unfolding of_file natural
-file_read (refused k) a b c d e l ea eb ec ed = absurd (not_refused (sym e))
-file_read (read h z rows) a b c d {f} {n} e l ea eb ec ed =
-    let q : ◌≡◌ {A = FileRead} f (record { hour = pos h; zone = pos z; lines = pos (length rows) }) = cc in
+file_read (refused k) a b c d e l t ea eb ec ed = absurd (not_refused (sym e))
+file_read (read h z rows) a b c d {f} {n} e l t ea eb ec ed =
+    let q : ◌≡◌ {A = FileRead} f (record { hour = pos h; zone = pos (zone_number z); lines = pos (length rows) }) = cc in
     let m : n ≡ length rows = l ∙ ap (λ (g : FileRead). natural g.lines) q in
     rw (
       q,
@@ -48,7 +53,7 @@ file_read (read h z rows) a b c d {f} {n} e l ea eb ec ed =
       rows_taken (λ r. r.exit) rows b,
       rows_taken (λ r. r.title) rows c,
       rows_taken (λ r. r.pooling) rows d,
-    )
+    ) at t
 
 pub file_few : (s : List ℕ) (a b c d : List ℤ) {f : FileRead} {n : ℕ} → Ok f ≡ answer_of (outcome s a b c d) → n ≡ natural f.lines → n ≤ users_most
 unfolding natural

@@ -12,7 +12,7 @@ ghost use Rattle.firsthour.specs.Examples.{ExamplesPrinted};
 ghost use Rattle.firsthour.specs.Printed.{input_most, of_file, printed};
 
 use allocation_file::read_hour_file;
-use allocation_row::FileCause;
+use allocation_row::{FileCause, Lists};
 use hour_text::amounts_text;
 use report::write_refused;
 use rules::Amounts;
@@ -35,7 +35,13 @@ fn file_text(writer: &mut Writer, file: &[u8])
     let mut exits = [0i64; 128];
     let mut titles = [0i64; 128];
     let mut poolings = [0i64; 128];
-    let read = match read_hour_file(file, &mut entries, &mut exits, &mut titles, &mut poolings) {
+    let mut lists = Lists {
+        entries: &mut entries,
+        exits: &mut exits,
+        titles: &mut titles,
+        poolings: &mut poolings,
+    };
+    let read = match read_hour_file(file, &mut lists) {
         Ok(read) => read,
         Err(cause) => return write_refused(writer, cause.number()),
     };

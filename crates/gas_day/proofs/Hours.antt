@@ -11,6 +11,7 @@ use Rattle.rules.specs.declared.Cause.{Cause}
 use Rattle.rules.specs.declared.Day.{Day}
 use Rattle.rules.specs.declared.HourTerms.{HourTerms}
 use Rattle.rules.specs.declared.Outcome.{Outcome}
+use Rattle.rules.specs.declared.Outputs.{Outputs}
 use Rattle.rules.specs.declared.Refusal.{Refusal}
 use Rattle.rules.specs.declared.HourDone.{HourDone}
 use Rattle.rules.specs.Refusals.{by_cause}
@@ -25,12 +26,12 @@ use Rattle.positions.specs.Before.{befores, all_fit}
 use Rattle.positions.proofs.Before.{before_is}
 use Rattle.settlement.specs.Steps.{TableAsks, TableLeaves}
 
-module _ (d : Day) (t : List ℤ) (k : HourTerms) (a : Amounts) (q m : List ℤ) (s : List ℕ) where
+module _ (d : Day) (t : List ℤ) (k : HourTerms) (a : Amounts) (o : Outputs) (s : List ℕ) where
   abbrev g : Hour
-  g = hour_given k a q m s
+  g = hour_given k a o s
 
   pub not_done : {cause : Cause} {r : Result HourDone Refusal}
-      → hour_cause d t g ≡ Err cause → r ≡ Err (record { cause = cause; day = d }) → HourPromise d t g t q m s r
+      → hour_cause d t g ≡ Err cause → r ≡ Err (record { cause = cause; day = d }) → HourPromise d t g t o.quantity.now o.money.now s r
   unfolding hour_answer hour_table hour_quantity hour_money hour_scratch by_cause
   not_done is e = record { answer = rw (e, is) refl; table = rw is refl; quantity = rw is refl; money = rw is refl; scratch = rw is refl }
 
@@ -39,12 +40,12 @@ module _ (d : Day) (t : List ℤ) (k : HourTerms) (a : Amounts) (q m : List ℤ)
     lengths = hour_lengths d t g (hour_fit_lem d t g none).lengths
 
     positions_before : before d t g ≡ befores (part k.zone t) a
-    positions_before = before_is d t k a q m s lengths.entries
+    positions_before = before_is d t k a o s lengths.entries
 
     pub day_fits_lem : day_fit d ≡ true
     day_fits_lem = (hour_fit_lem d t g none).day
 
-    pub asks : TableAsks t a k q m s
+    pub asks : TableAsks t a k o s
     unfolding amounts_fit before_fit all_fit
     asks =
         let f = hour_fit_lem d t g none in
@@ -74,11 +75,11 @@ module _ (d : Day) (t : List ℤ) (k : HourTerms) (a : Amounts) (q m : List ℤ)
           };
         }
 
-    pub done : (t' q' m' : List ℤ) (s' : List ℕ) (o : Outcome) (d' : Day)
-        → TableLeaves t t' a k q' m' s s' o → d' ≡ day_after_hour k.zone d
-        → HourPromise d t g t' q' m' s' (Ok (record { day = d'; outcome = o }))
+    pub done : (t' : List ℤ) (o' : Outputs) (s' : List ℕ) (x : Outcome) (d' : Day)
+        → TableLeaves t t' a k o o' s s' x → d' ≡ day_after_hour k.zone d
+        → HourPromise d t g t' o'.quantity.now o'.money.now s' (Ok (record { day = d'; outcome = x }))
     unfolding hour_imbalance hour_answer hour_table hour_quantity hour_money hour_scratch by_cause
-    done t' q' m' s' o d' v e =
+    done t' o' s' x d' v e =
         let b = positions_before in
         record {
           answer = rw (none, b, e, v.lists.answer) refl;

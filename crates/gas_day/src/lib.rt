@@ -4,12 +4,13 @@
 #![tactic(auto)]
 
 ghost use Rattle.std.specs.Prelude.{◌≡◌};
-ghost use Rattle.rules.specs.Hours.{hour_given, closing_given};
+ghost use Rattle.rules.specs.Hours.{hour_given, closing_given, Same};
 ghost use Rattle.rules.specs.Answers.{with_day, thresholds_answer};
 ghost use Rattle.rules.specs.Promises.{OpenPromise, HourPromise, ClosingPromise};
 
 use rules::{
-    Amounts, Cause, ClosingDone, ClosingTerms, Day, HourDone, HourTerms, Refusal, Thresholds,
+    Amounts, Cause, ClosingDone, ClosingTerms, Day, HourDone, HourTerms, Outputs, Refusal,
+    Thresholds,
 };
 
 // What a refusal of an hour or a closing returns: "number, same record".
@@ -28,7 +29,7 @@ pub fn open(users: i64, length: i64, table: &mut [i64]) -> Result<Day, Cause>
     Ok(day_record::new_day(users, length))
 }
 
-// The default thresholds of a month and zone: causes 4 and 8.
+// The default thresholds of a month and zone: causes 4 and 8. (The zone is a number, as the caller gives it: cause 4 is for those that name no zone.)
 #[tactic(auto, unfolding(rules::specs::Answers::thresholds_answer, rules::specs::Causes::thresholds_cause))]
 pub fn default_thresholds(month: i64, zone: i64) -> Result<Thresholds, Cause>
     ensures { result ≡ thresholds_answer month zone }
@@ -39,24 +40,23 @@ pub fn default_thresholds(month: i64, zone: i64) -> Result<Thresholds, Cause>
     Ok(Thresholds { upper, lower })
 }
 
-// Settles an hour of a zone: causes 2 to 11. (The lists that it fills come one by one, as the C interface lends them.)
+// Settles an hour of a zone: causes 2 to 11.
 pub fn settle_hour(
     day: Day,
     table: &mut [i64],
     terms: HourTerms,
     amounts: &Amounts,
-    quantity: &mut [i64],
-    money: &mut [i64],
+    outputs: &mut Outputs,
     scratch: &mut [u64],
 ) -> Result<HourDone, Refusal>
-    ensures { HourPromise day table.old
-        (hour_given terms amounts.now
-        quantity.old money.old scratch.old)
-        table.new quantity.new money.new scratch.new result }
+    ensures same { Same outputs.old outputs.new }
+    ensures settled { HourPromise day table.old
+        (hour_given terms amounts.now outputs.old scratch.old)
+        table.new outputs.new.quantity.now outputs.new.money.now scratch.new result }
 {
-    let cause = causes::hour_cause(day, table, terms, amounts, quantity, money, scratch);
+    let cause = causes::hour_cause(day, table, terms, amounts, outputs, scratch);
     refused(cause, day)?;
-    let outcome = settlement::settle_table(table, amounts, terms, quantity, money, scratch);
+    let outcome = settlement::settle_table(table, amounts, terms, outputs, scratch);
     let next = day_record::day_after_hour(terms.zone, day);
     Ok(HourDone { day: next, outcome })
 }
@@ -66,16 +66,16 @@ pub fn close_zone(
     day: Day,
     table: &mut [i64],
     terms: ClosingTerms,
-    quantity: &mut [i64],
-    money: &mut [i64],
+    outputs: &mut Outputs,
 ) -> Result<ClosingDone, Refusal>
-    ensures { ClosingPromise day table.old
-        (closing_given terms quantity.old money.old)
-        table.new quantity.new money.new result }
+    ensures same { Same outputs.old outputs.new }
+    ensures closed { ClosingPromise day table.old
+        (closing_given terms outputs.old)
+        table.new outputs.new.quantity.now outputs.new.money.now result }
 {
-    let cause = causes::closing_cause(day, table, terms, quantity, money);
+    let cause = causes::closing_cause(day, table, terms, outputs);
     refused(cause, day)?;
-    let sums = closing::close_table(table, terms, quantity, money);
+    let sums = closing::close_table(table, terms, outputs);
     let next = day_record::day_after_closing(terms.zone, day);
     Ok(ClosingDone {
         day: next,

@@ -4,15 +4,16 @@
 #![tactic(auto)]
 
 ghost use Rattle.std.specs.Prelude.{◌≡◌};
-ghost use Rattle.rules.specs.Hours.{hour_listed, closing_given};
+ghost use Rattle.rules.specs.Hours.{hour_listed, closing_listed};
 ghost use Rattle.rules.specs.Answers.{thresholds_answer};
 ghost use Rattle.flat.specs.Flat.{flat_thresholds};
 ghost use Rattle.allocation_writer.specs.Writer.{content_listed};
 ghost use Rattle.gas_day_c.specs.Promises.{version, OpenForC, HourForC, ClosingForC, FileForC, WriteForC};
 
+use allocation_row::Lists;
 use flat::{ClosingC, FileC, HourC, OpenC, ThresholdsC, WrittenC};
 use record_c::DayC;
-use rules::{Amounts, ClosingTerms, HourTerms};
+use rules::{Amounts, ClosingTerms, HourTerms, Outputs};
 
 // The interface's version: one more where a client that was built with an older header would call it wrongly.
 pub const VERSION: u64 = 2;
@@ -69,7 +70,8 @@ pub extern "C" fn gas_day_settle_hour(
         titles: title,
         poolings: pooling,
     };
-    let answer = gas_day::settle_hour(day.into(), table, terms, &amounts, quantity, money, scratch);
+    let mut outputs = Outputs { quantity, money };
+    let answer = gas_day::settle_hour(day.into(), table, terms, &amounts, &mut outputs, scratch);
     HourC::of(day, answer)
 }
 
@@ -84,10 +86,11 @@ pub extern "C" fn gas_day_close_zone(
     money: &mut [i64],
 ) -> ClosingC
     ensures { ClosingForC day table.old
-        (closing_given terms quantity.old money.old)
+        (closing_listed terms quantity.old money.old)
         table.new quantity.new money.new result }
 {
-    let answer = gas_day::close_zone(day.into(), table, terms, quantity, money);
+    let mut outputs = Outputs { quantity, money };
+    let answer = gas_day::close_zone(day.into(), table, terms, &mut outputs);
     ClosingC::of(day, answer)
 }
 
@@ -105,7 +108,13 @@ pub extern "C" fn gas_day_read_hour_file(
         entries.old exits.old titles.old poolings.old result
         entries.new exits.new titles.new poolings.new }
 {
-    allocation_file::read_hour_file(file, entries, exits, titles, poolings).into()
+    let mut lists = Lists {
+        entries,
+        exits,
+        titles,
+        poolings,
+    };
+    allocation_file::read_hour_file(file, &mut lists).into()
 }
 
 // ---- the hour's file, written

@@ -6,18 +6,19 @@ use Prim.Native.Nat.{ℕ, ◌+◌, ◌-◌, ◌≤◌}
 use native.Mathlib.Omega.{arith}
 use lib.Dec.{lit≤}
 use lib.IntN.{ℤ, pos, ◌+ℤ◌, ◌-ℤ◌}
-use lib.ListN.{length, get_or, take, drop, length-take, length-drop}
+use lib.ListN.{length, get_or, take, drop, length-take, length-drop, length-map}
 use lib.Seq.{ext_get_or, take-take}
 use Rattle.std.specs.Prelude.{Ok, Err}
 use Rattle.integers.specs.Ranges.{is_zero}
 use Rattle.integers.proofs.Linear.{lin2, diffs, linear}
 use Rattle.rules.specs.Limits.{users_most}
 use Rattle.rules.specs.declared.Day.{Day}
+use Rattle.rules.specs.declared.Outputs.{Outputs}
 use Rattle.rules.specs.declared.Refusal.{Refusal}
 use Rattle.rules.specs.declared.HourDone.{HourDone}
 use Rattle.rules.specs.Days.{users, first_place, part}
 use Rattle.rules.specs.Hours.{Hour, before}
-use Rattle.rules.specs.Market.{quantities, after}
+use Rattle.rules.specs.Market.{quantities, after, moneys}
 use Rattle.rules.specs.Causes.{hour_cause, before_fit}
 use Rattle.rules.specs.Answers.{hour_imbalance, hour_answer, hour_table, hour_quantity, hour_money}
 use Rattle.rules.proofs.Refusing.{by_none, with_day_none}
@@ -49,10 +50,12 @@ after_is zone table start n e h =
     let k : start + n - start ≡ n = omega arith in
     rw (k, e) (sym (take-take n 128 (drop (first_place zone) table) h))
 
-pub adds_of : {w : Writer} {zone : ℤ} {table q m b a : List ℤ} → Settled w zone table q m b → a ≡ afters zone (length q) table → Adds q a b
+pub adds_of : {w : Writer} {zone : ℤ} {table : List ℤ} {o : Outputs} {b a : List ℤ} → Settled w zone table o b
+    → a ≡ afters zone (length o.quantity.now) table → Adds o.quantity.now a b
 unfolding afters part
-adds_of {zone = zone} {table = table} {q = q} s e =
-    let l : length (take (length q) (take 128 (drop (first_place zone) table))) ≡ length q =
+adds_of {zone = zone} {table = table} {o = o} s e =
+    let n = length o.quantity.now in
+    let l : length (take n (take 128 (drop (first_place zone) table))) ≡ n =
     simp (length-take, length-drop) (omega (arith, s.users, s.places, first_few zone)) in
     record { seconds = ap length e ∙ l; outs = s.befores; small = rw e s.small }
 
@@ -86,38 +89,39 @@ module _ (d : Day) (t : List ℤ) (g : Hour) where
         ∙ ap (λ (z : ℤ). get_or (quantities i b) u (pos 0) +ℤ z) (after_at i b u (omega (arith, l)))
         ∙ regained (get_or (quantities i b) u (pos 0)) (get_or b u (pos 0)))
 
-    module _ {t' q' m' : List ℤ} (et : t' ≡ hour_table d t g) (eq : q' ≡ hour_quantity d t g) (em : m' ≡ hour_money d t g) where
-      quantity_is : q' ≡ quantities (hour_imbalance d t g) (before d t g)
+    module _ {t' : List ℤ} (o' : Outputs) (et : t' ≡ hour_table d t g) (eq : o'.quantity.now ≡ hour_quantity d t g) (em : o'.money.now ≡ hour_money d t g) where
+      quantity_is : o'.quantity.now ≡ quantities (hour_imbalance d t g) (before d t g)
       unfolding hour_quantity
       quantity_is = eq ∙ by_none _ _ _ k
 
-      long_quantity : length q' ≡ users d
+      long_quantity : length o'.quantity.now ≡ users d
       long_quantity = ap length quantity_is ∙ length-quantities (hour_imbalance d t g) (before d t g) ∙ length_before d t g
 
-      left : afters g.terms.zone (length q') t' ≡ after (hour_imbalance d t g) (before d t g)
+      left : afters g.terms.zone (length o'.quantity.now) t' ≡ after (hour_imbalance d t g) (before d t g)
       unfolding afters
       left = rw (long_quantity, et) (positions_left d t g k)
 
-      sums-left : sums q' (afters g.terms.zone (length q') t') ≡ before d t g
+      sums-left : sums o'.quantity.now (afters g.terms.zone (length o'.quantity.now) t') ≡ before d t g
       sums-left = rw (left, quantity_is) sums_are
 
-      pub done_text : settled d t g ≡ Ok (settled_text g.terms.zone t' q' m')
+      pub done_text : settled d t g ≡ Ok (settled_text g.terms.zone t' o'.quantity.now o'.money.now)
       unfolding settled settled_text
       done_text =
           rw (k, sums-left, left, ← eq, ← em, positions_left d t g k) refl
 
-      pub done_asks : {w : Writer} {b : List ℤ} → TextRoom w b g.entry → length t' ≡ length t
-          → length m' ≡ length g.money → Settled w g.terms.zone t' q' m' b
-      unfolding before_fit
-      done_asks r lt lm =
+      pub done_asks : {w : Writer} {b : List ℤ} → TextRoom w b g.entry → length t' ≡ length t → Settled w g.terms.zone t' o' b
+      unfolding before_fit hour_money moneys
+      done_asks r lt =
           let s = hour_sound d t g k in
           let f = hour_fit_lem d t g k in
           let l = hour_lengths d t g f.lengths in
+          let lm : length o'.money.now ≡ length o'.quantity.now =
+          ap length (em ∙ by_none _ _ _ k) ∙ length-map _ _ ∙ sym (ap length quantity_is) in
           record {
             room = r.room;
             places = lt ∙ s.long;
             users = omega (arith, long_quantity, s.few);
-            moneys = omega (arith, long_quantity, lm, l.moneys);
+            moneys = lm;
             befores = omega (arith, long_quantity, r.befores, l.entries);
             small = rw sums-left (positions_small _ f.positions);
           }

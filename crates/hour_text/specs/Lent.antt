@@ -4,6 +4,7 @@ use Rattle.integers.specs.Lists.{tabulate, AtMost}
 use Rattle.rules.specs.Limits.{users_most, position_most}
 use Rattle.rules.specs.declared.Amounts.{Amounts}
 use Rattle.rules.specs.declared.Cause.{Cause}
+use Rattle.rules.specs.declared.Outputs.{Outputs}
 use Rattle.rules.specs.Days.{part}
 use Rattle.text.specs.declared.writing.Writer.{Writer}
 use Rattle.text.specs.Puts.{Room, Wrote}
@@ -34,13 +35,13 @@ abbrev pub text_most : ℕ
 text_most = 24 + users_most * 106
 
 -- room for the longest text, the whole table, lists of one length of no more users than a day has, and sums that are positions
-pub record Settled (w : Writer) (zone : ℤ) (table quantity money before : List ℤ) : Type 0 where
+pub record Settled (w : Writer) (zone : ℤ) (table : List ℤ) (o : Outputs) (before : List ℤ) : Type 0 where
   pub room : Room w text_most
   pub places : length table ≡ 256
-  pub users : length quantity ≤ users_most
-  pub moneys : length money ≡ length quantity
-  pub befores : length before ≡ length quantity
-  pub small : AtMost position_most (sums quantity (afters zone (length quantity) table))
+  pub users : length o.quantity.now ≤ users_most
+  pub moneys : length o.money.now ≡ length o.quantity.now
+  pub befores : length before ≡ length o.quantity.now
+  pub small : AtMost position_most (sums o.quantity.now (afters zone (length o.quantity.now) table))
 
 -- room for the longest text, and a list of positions before settlement as long as the users' lists
 pub record TextRoom (w : Writer) (before entry : List ℤ) : Type 0 where

@@ -10,7 +10,7 @@ ghost use Rattle.hour_text.specs.Opened.{settled, terms_of, with_defaults, opene
 
 use gas_day::{default_thresholds, open, settle_hour};
 use report::{write_hour, write_refused};
-use rules::{Amounts, Cause, Day, HourTerms, Thresholds};
+use rules::{Amounts, Cause, Day, HourTerms, Outputs, Thresholds};
 use text::writing::Writer;
 
 // January, whose default thresholds apply.
@@ -25,28 +25,31 @@ fn add_quantities(quantity: &[i64], after: &[i64], before: &mut [i64])
     requires { Adds quantity.now after.now before.old }
     ensures { before.new ≡ sums quantity.now after.now }
 {
-    for i in 0..quantity.len() {
-        before[i] = quantity[i] + after[i];
+    for (i, sum) in before.iter_mut().enumerate() {
+        *sum = quantity[i] + after[i];
     }
 }
+
+// What is lent goes on by name from here, and not as one struct: the contracts speak of each list by itself, and a struct would only hold `Outputs` and the others
+// once more. (The zone is a number, as of any hour.)
 
 // The text of an hour that is settled.
 fn settled_text(
     writer: &mut Writer,
     zone: i64,
     table: &[i64],
-    quantity: &[i64],
-    money: &[i64],
+    outputs: &Outputs,
     before: &mut [i64],
 )
-    requires { Settled writer.old zone table.now quantity.now money.now before.old }
-    ensures { Wrote writer.old writer.new (settled_text zone table.now quantity.now money.now) }
+    requires { Settled writer.old zone table.now outputs.now before.old }
+    ensures { Wrote writer.old writer.new
+        (settled_text zone table.now outputs.now.quantity.now outputs.now.money.now) }
 {
     let start = places::first_place(zone);
-    let end = start + quantity.len();
+    let end = start + outputs.quantity.len();
     let after = &table[start..end];
-    add_quantities(quantity, after, before);
-    write_hour(writer, before, quantity, money, after);
+    add_quantities(outputs.quantity, after, before);
+    write_hour(writer, before, outputs.quantity, outputs.money, after);
 }
 
 // Settles the hour of an open day, and writes its text.
@@ -56,21 +59,20 @@ fn hour_text(
     table: &mut [i64],
     terms: HourTerms,
     amounts: &Amounts,
-    quantity: &mut [i64],
-    money: &mut [i64],
+    outputs: &mut Outputs,
     scratch: &mut [u64],
     before: &mut [i64],
 ) -> Result<(), Cause>
     requires { TextRoom writer.old before.old amounts.now.entries.now }
     ensures { Writes
         (settled day table.old
-        (hour_given terms amounts.now quantity.old money.old scratch.old))
+        (hour_given terms amounts.now outputs.old scratch.old))
         writer.old writer.new result }
 {
-    match settle_hour(day, table, terms, amounts, quantity, money, scratch) {
+    match settle_hour(day, table, terms, amounts, outputs, scratch) {
         Err(refusal) => Err(refusal.cause),
         Ok(_) => {
-            settled_text(writer, terms.zone, table, quantity, money, before);
+            settled_text(writer, terms.zone, table, outputs, before);
             Ok(())
         }
     }
@@ -98,21 +100,18 @@ fn january_text(
     zone: i64,
     table: &mut [i64],
     amounts: &Amounts,
-    quantity: &mut [i64],
-    money: &mut [i64],
+    outputs: &mut Outputs,
     scratch: &mut [u64],
     before: &mut [i64],
 ) -> Result<(), Cause>
     requires { TextRoom writer.old before.old amounts.now.entries.now }
     ensures { Writes
         (with_defaults day table.old hour zone
-        (λ terms. hour_given terms amounts.now quantity.old money.old scratch.old))
+        (λ terms. hour_given terms amounts.now outputs.old scratch.old))
         writer.old writer.new result }
 {
     let terms = terms_of(hour, zone, default_thresholds(MONTH, zone)?);
-    hour_text(
-        writer, day, table, terms, amounts, quantity, money, scratch, before,
-    )
+    hour_text(writer, day, table, terms, amounts, outputs, scratch, before)
 }
 
 // Opens a day of as many users as there are entries and of the usual length, and settles the hour.
@@ -122,20 +121,19 @@ fn day_text(
     zone: i64,
     table: &mut [i64],
     amounts: &Amounts,
-    quantity: &mut [i64],
-    money: &mut [i64],
+    outputs: &mut Outputs,
     scratch: &mut [u64],
     before: &mut [i64],
 ) -> Result<(), Cause>
     requires { TextRoom writer.old before.old amounts.now.entries.now }
     ensures { Writes
         (opened hour zone table.old (length amounts.now.entries.now)
-        (λ terms. hour_given terms amounts.now quantity.old money.old scratch.old))
+        (λ terms. hour_given terms amounts.now outputs.old scratch.old))
         writer.old writer.new result }
 {
     let day = open(amounts.entries.len() as i64, Day::LENGTH_USUAL, table)?;
     january_text(
-        writer, day, hour, zone, table, amounts, quantity, money, scratch, before,
+        writer, day, hour, zone, table, amounts, outputs, scratch, before,
     )
 }
 
@@ -158,14 +156,17 @@ pub fn amounts_text(writer: &mut Writer, hour: i64, zone: i64, n: usize, amounts
     let mut money = [0i64; 128];
     let mut scratch = [0u64; 128];
     let mut before = [0i64; 128];
+    let mut outputs = Outputs {
+        quantity: &mut quantity[..n],
+        money: &mut money[..n],
+    };
     let written = day_text(
         writer,
         hour,
         zone,
         &mut table,
         &amounts,
-        &mut quantity[..n],
-        &mut money[..n],
+        &mut outputs,
         &mut scratch[..n],
         &mut before[..n],
     );

@@ -11,6 +11,7 @@ use Rattle.integers.proofs.Tests.{and_true}
 use Rattle.rules.specs.declared.Amounts.{Amounts}
 use Rattle.rules.specs.declared.Day.{Day}
 use Rattle.rules.specs.declared.HourTerms.{HourTerms}
+use Rattle.rules.specs.declared.Outputs.{Outputs}
 use Rattle.rules.specs.Limits.{entry_most, exit_most, title_most, pooling_most, entry_fit, exit_fit, title_fit, pooling_fit}
 use Rattle.rules.specs.Days.{users, part, place}
 use Rattle.rules.specs.Hours.{hour_given, amounts, before}
@@ -47,7 +48,7 @@ amounts_small a fit =
     }
 
 -- the positions before settlement, by rule 1
-pub before_is : (d : Day) (t : List ℤ) (k : HourTerms) (a : Amounts) (q m : List ℤ) (s : List ℕ) → length a.entries.now ≡ users d
-    → before d t (hour_given k a q m s) ≡ befores (part k.zone t) a
+pub before_is : (d : Day) (t : List ℤ) (k : HourTerms) (a : Amounts) (o : Outputs) (s : List ℕ) → length a.entries.now ≡ users d
+    → before d t (hour_given k a o s) ≡ befores (part k.zone t) a
 unfolding before befores before_at amounts_at place amounts
-before_is d t k a q m s e = rw e
+before_is d t k a o s e = rw e

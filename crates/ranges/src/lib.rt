@@ -16,28 +16,29 @@ pub mod limits;
 pub fn users_fit(users: i64) -> bool
     ensures { result ≡ users_fit users }
 {
-    Day::USERS_LEAST <= users && users <= Day::USERS_MOST
+    integers::within(Day::USERS_LEAST, Day::USERS_MOST, users)
 }
 
 #[tactic(auto, unfolding(rules::specs::Limits::length_fit))]
 pub fn length_fit(length: i64) -> bool
     ensures { result ≡ length_fit length }
 {
-    Day::LENGTH_LEAST <= length && length <= Day::LENGTH_MOST
+    integers::within(Day::LENGTH_LEAST, Day::LENGTH_MOST, length)
 }
 
+// The zone is a number here, and in the functions of the other crates that ask which zone: any number may come, and a narrower type would ask more.
 #[tactic(auto, unfolding(rules::specs::Limits::zone_fit))]
 pub fn zone_fit(zone: i64) -> bool
     ensures { result ≡ zone_fit zone }
 {
-    0 <= zone && zone <= 1
+    integers::within(0, 1, zone)
 }
 
 #[tactic(auto, unfolding(rules::specs::Limits::month_fit))]
 pub fn month_fit(month: i64) -> bool
     ensures { result ≡ month_fit month }
 {
-    1 <= month && month <= 12
+    integers::within(1, 12, month)
 }
 
 #[tactic(auto, unfolding(rules::specs::Causes::prices_fit))]

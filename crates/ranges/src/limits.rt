@@ -22,7 +22,7 @@ pub trait Kind {
     fn fits(number: i64) -> bool
         ensures { result ≡ fit number }
     {
-        Self::LEAST <= number && number <= Self::MOST
+        integers::within(Self::LEAST, Self::MOST, number)
     }
 
     // Every number of a list, in one pass.
@@ -93,7 +93,7 @@ impl Price {
     }
 }
 
-// A threshold of the market position in kWh: of two ranges, so that it is no `Kind`.
+// A threshold of the market position in kWh. It is no `Kind`, which has one range: its upper and its lower are one type, as in the definitions, and of two.
 #[derive(Clone, Copy)]
 pub struct Threshold {
     pub kwh: i64,
@@ -112,7 +112,7 @@ impl Threshold {
     pub fn checked_upper(kwh: i64) -> Option<Threshold>
         ensures { result ≡ only_if (upper_fit kwh) (record { kwh = kwh }) }
     {
-        let fits = Threshold::UPPER_LEAST <= kwh && kwh <= Threshold::UPPER_MOST;
+        let fits = integers::within(Threshold::UPPER_LEAST, Threshold::UPPER_MOST, kwh);
         fits.then_some(Threshold { kwh })
     }
 
@@ -120,7 +120,7 @@ impl Threshold {
     pub fn checked_lower(kwh: i64) -> Option<Threshold>
         ensures { result ≡ only_if (lower_fit kwh) (record { kwh = kwh }) }
     {
-        let fits = Threshold::LOWER_LEAST <= kwh && kwh <= Threshold::LOWER_MOST;
+        let fits = integers::within(Threshold::LOWER_LEAST, Threshold::LOWER_MOST, kwh);
         fits.then_some(Threshold { kwh })
     }
 }

@@ -59,7 +59,7 @@ impl ZoneDayC {
     fn mark_fits(self) -> bool
         ensures { result ≡ mark_fits self }
     {
-        0 <= self.closed && self.closed <= 1
+        integers::within(0, 1, self.closed)
     }
 }
 

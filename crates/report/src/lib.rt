@@ -58,6 +58,7 @@ pub fn write_hour(
     ensures { Wrote writer.old writer.new (hour_text before.now quantity.now money.now after.now) }
 {
     writer.bytes(&HEADING);
+    // By place: the four lists come as an hour has them, since a list of lines would want memory of its own, and there is no heap.
     for i in 0..quantity.len() {
         write_user_line(writer, i as i64, before[i], quantity[i], money[i], after[i]);
     }

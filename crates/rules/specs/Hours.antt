@@ -1,7 +1,8 @@
 -- What an hour and a closing are given besides the record and the table, fit or unfit; and rule 1. Assumes nothing.
-use Rattle.std.specs.Prelude.{List, ℕ, ℤ, pos, ◌+ℤ◌, get_or, take}
+use Rattle.std.specs.Prelude.{◌≡◌, List, ℕ, ℤ, pos, ◌+ℤ◌, get_or, take}
 use Rattle.integers.specs.Lists.{tabulate}
 use Rattle.rules.specs.declared.Amounts.{Amounts}
+use Rattle.rules.specs.declared.Outputs.{Outputs}
 use Rattle.rules.specs.declared.Day.{Day}
 use Rattle.rules.specs.declared.HourTerms.{HourTerms}
 use Rattle.rules.specs.declared.ClosingTerms.{ClosingTerms}
@@ -24,16 +25,24 @@ pub record Closing : Type 0 where
   pub quantity : List ℤ
   pub money : List ℤ
 
--- the same from a call's parameters, the amounts as four lists, as C gives them, or as one struct
+-- the same from a call's parameters: each list by itself, as C gives them, or as the two structs
 abbrev pub hour_listed : HourTerms → List ℤ → List ℤ → List ℤ → List ℤ → List ℤ → List ℤ → List ℕ → Hour
 hour_listed terms entry exit title pooling quantity money scratch =
     record { terms = terms; entry = entry; exit = exit; title = title; pooling = pooling; quantity = quantity; money = money; scratch = scratch }
 
-abbrev pub hour_given : HourTerms → Amounts → List ℤ → List ℤ → List ℕ → Hour
-hour_given terms a quantity money scratch = hour_listed terms a.entries.now a.exits.now a.titles.now a.poolings.now quantity money scratch
+abbrev pub hour_given : HourTerms → Amounts → Outputs → List ℕ → Hour
+hour_given terms a o scratch = hour_listed terms a.entries.now a.exits.now a.titles.now a.poolings.now o.quantity.now o.money.now scratch
 
-abbrev pub closing_given : ClosingTerms → List ℤ → List ℤ → Closing
-closing_given terms quantity money = record { terms = terms; quantity = quantity; money = money }
+abbrev pub closing_listed : ClosingTerms → List ℤ → List ℤ → Closing
+closing_listed terms quantity money = record { terms = terms; quantity = quantity; money = money }
+
+abbrev pub closing_given : ClosingTerms → Outputs → Closing
+closing_given terms o = closing_listed terms o.quantity.now o.money.now
+
+-- the lists that come back in o' are the ones that were lent in o: each has its name, whatever it now holds
+pub record Same (o o' : Outputs) : Type 0 where
+  pub quantity : o'.quantity.ghost_name ≡ o.quantity.ghost_name
+  pub money : o'.money.ghost_name ≡ o.money.ghost_name
 
 -- a user's four amounts together
 unfoldable pub amounts : Hour → ℕ → ℤ

@@ -5,33 +5,33 @@
 ghost use Rattle.std.specs.Prelude.{◌≡◌};
 ghost use Rattle.rules.specs.Refusals.{number, unless};
 
-// The causes for turning a call away, each under the papers' words.
+// The causes for turning a call away, each under the papers' words, with their number.
 #[derive(Clone, Copy, PartialEq, Eq)]
 pub enum Cause {
     // "opening: user count not 1 to 128"
-    Users,
+    Users = 1,
     // "record's user count not 1 to 128, hours not 0 to 24, or a zone closed with fewer than 24"
-    Record,
+    Record = 2,
     // "table not of 256 places, or a list or the scratch not of exactly the user count"
-    Lengths,
+    Lengths = 3,
     // "zone not 0 or 1"
-    Zone,
+    Zone = 4,
     // "zone closed"
-    Closed,
+    Closed = 5,
     // "hour is not hours done plus 1, or above 24; at closing, hours done below 24"
-    Hour,
+    Hour = 6,
     // "table holds a position outside its range, a non-zero place at or beyond the user count in either zone, or a non-zero place in a zone that is closed or has no hours done"
-    Table,
+    Table = 7,
     // "threshold or price out of range; month not 1 to 12"
-    Terms,
+    Terms = 8,
     // "an amount out of range"
-    Amounts,
+    Amounts = 9,
     // "pooling amounts do not add to zero"
-    Pooling,
+    Pooling = 10,
     // "a position before settlement out of range"
-    Positions,
+    Positions = 11,
     // "at opening .. if the length is none of these"
-    DayLength,
+    DayLength = 21,
 }
 
 impl Cause {
@@ -39,20 +39,7 @@ impl Cause {
     pub fn number(self) -> u64
         ensures { result ≡ number self }
     {
-        match self {
-            Cause::Users => 1,
-            Cause::Record => 2,
-            Cause::Lengths => 3,
-            Cause::Zone => 4,
-            Cause::Closed => 5,
-            Cause::Hour => 6,
-            Cause::Table => 7,
-            Cause::Terms => 8,
-            Cause::Amounts => 9,
-            Cause::Pooling => 10,
-            Cause::Positions => 11,
-            Cause::DayLength => 21,
-        }
+        self as u64
     }
 }
 
@@ -129,6 +116,13 @@ pub struct Amounts<'a> {
     pub exits: &'a [i64],
     pub titles: &'a [i64],
     pub poolings: &'a [i64],
+}
+
+// The lists that an hour or a closing fills, a number for each user: what it sells, and what it is paid.
+#[derive(Drop)]
+pub struct Outputs<'a> {
+    pub quantity: &'a mut [i64],
+    pub money: &'a mut [i64],
 }
 
 // Which side of its thresholds the market was on, and its total: how far.

@@ -13,6 +13,7 @@ use Rattle.integers.proofs.Passes.{every_take}
 use Rattle.rules.specs.declared.Amounts.{Amounts}
 use Rattle.rules.specs.declared.HourTerms.{HourTerms}
 use Rattle.rules.specs.declared.Outcome.{Outcome}
+use Rattle.rules.specs.declared.Outputs.{Outputs}
 use Rattle.rules.specs.Limits.{position_fit}
 use Rattle.rules.specs.Days.{onto}
 use Rattle.rules.specs.Market.{imbalance}
@@ -29,9 +30,9 @@ module _ (p : List ℤ) (a : Amounts) where
   befores-take = tabulate_ext _ _ (length a.entries.now) (λ u h. ap (λ (y : ℤ). y +ℤ amounts_at a u) (get_or-take (length a.entries.now) p u (pos 0) h))
 
   module _ (k : HourTerms) where
-    pub users_asked : (q m : List ℤ) (s : List ℕ) → Asks p a k q m s
-        → (length (take (length a.entries.now) p) ≡ length a.entries.now) × Asks (take (length a.entries.now) p) a k q m s
-    users_asked q m s g = (long, asks)
+    pub users_asked : (o : Outputs) (s : List ℕ) → Asks p a k o s
+        → (length (take (length a.entries.now) p) ≡ length a.entries.now) × Asks (take (length a.entries.now) p) a k o s
+    users_asked o s g = (long, asks)
       where
         b : Lent p a
         b = g.amounts.lent
@@ -39,7 +40,7 @@ module _ (p : List ℤ) (a : Amounts) where
         long : length (take (length a.entries.now) p) ≡ length a.entries.now
         long = simp length-take (omega (arith, b.room))
 
-        asks : Asks (take (length a.entries.now) p) a k q m s
+        asks : Asks (take (length a.entries.now) p) a k o s
         asks = record {
           amounts = record {
             lent = record {
@@ -57,10 +58,10 @@ module _ (p : List ℤ) (a : Amounts) where
           scratches = g.scratches;
         }
 
-    pub zone-left : (p' q' m' : List ℤ) (s s' : List ℕ) (r : Outcome) → UsersLeave (take (length a.entries.now) p) p' a k q' m' s s' r
-        → ZoneLeaves p (p' ++ drop (length a.entries.now) p) a k q' m' s s' r
+    pub zone-left : (p' : List ℤ) (o o' : Outputs) (s s' : List ℕ) (r : Outcome) → UsersLeave (take (length a.entries.now) p) p' a k o o' s s' r
+        → ZoneLeaves p (p' ++ drop (length a.entries.now) p) a k o o' s s' r
     unfolding onto
-    zone-left p' q' m' s s' r v =
+    zone-left p' o o' s s' r v =
         let ps = befores p a in
         let l : length (afters k ps) ≡ length a.entries.now = length-after (imbalance k.upper k.lower ps) ps ∙ length-befores p a in
         record {
@@ -69,16 +70,16 @@ module _ (p : List ℤ) (a : Amounts) where
         }
 
 -- ---- the zone's part of the table
-module _ (tb : List ℤ) (a : Amounts) (k : HourTerms) (p' q' m' : List ℤ) (s s' : List ℕ) (r : Outcome) where
-  pub left_h : is_zero k.zone ≡ true → ZoneLeaves (take 128 tb) p' a k q' m' s s' r
-      → TableLeaves tb (p' ++ drop 128 tb) a k q' m' s s' r
+module _ (tb : List ℤ) (a : Amounts) (k : HourTerms) (p' : List ℤ) (o o' : Outputs) (s s' : List ℕ) (r : Outcome) where
+  pub left_h : is_zero k.zone ≡ true → ZoneLeaves (take 128 tb) p' a k o o' s s' r
+      → TableLeaves tb (p' ++ drop 128 tb) a k o o' s s' r
   left_h z v = record {
     lists = rw (part_h k.zone tb z) v.lists;
     table = rw (with_h k.zone tb _ z, part_h k.zone tb z) (ap (λ (l : List ℤ). l ++ drop 128 tb) v.places);
   }
 
-  pub left_l : is_zero k.zone ≡ false → ZoneLeaves (take 128 (drop 128 tb)) p' a k q' m' s s' r
-      → TableLeaves tb (take 128 tb ++ (p' ++ drop 128 (drop 128 tb))) a k q' m' s s' r
+  pub left_l : is_zero k.zone ≡ false → ZoneLeaves (take 128 (drop 128 tb)) p' a k o o' s s' r
+      → TableLeaves tb (take 128 tb ++ (p' ++ drop 128 (drop 128 tb))) a k o o' s s' r
   left_l z v =
       record {
         lists = rw (part_l k.zone tb z) v.lists;

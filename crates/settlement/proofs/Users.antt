@@ -11,9 +11,11 @@ use Rattle.integers.specs.Lists.{sum_ℤ, AtMost}
 use Rattle.integers.proofs.Sizes.{size-sub}
 use Rattle.integers.proofs.Sums.{sum_bound, at_most_tail}
 use Rattle.rules.specs.Limits.{users_most, position_most, market_most}
+use Rattle.rules.specs.Hours.{Same}
 use Rattle.rules.specs.declared.Amounts.{Amounts}
 use Rattle.rules.specs.declared.HourTerms.{HourTerms}
 use Rattle.rules.specs.declared.Marks.{Marks}
+use Rattle.rules.specs.declared.Outputs.{Outputs}
 use Rattle.rules.specs.declared.Outcome.{Outcome}
 use Rattle.rules.specs.declared.Outcome.TheVariants.{Within}
 use Rattle.rules.specs.Market.{Imbalance, within, imbalance, caused, size, sizes, settled_sizes, signed, quantities, after, money_of, moneys, outcome}
@@ -64,7 +66,7 @@ sizes_small i (p ∷ ps) s zero = omega (arith, size-le i p, s.at 0)
 sizes_small i (p ∷ ps) s (suc j) = sizes_small i ps (at_most_tail s) j
 
 -- ---- by the positions before, z
-module _ {p : List ℤ} {a : Amounts} {k : HourTerms} {q m : List ℤ} {s : List ℕ} (g : Asks p a k q m s) (z : List ℤ) (ez : z ≡ befores p a) where
+module _ {p : List ℤ} {a : Amounts} {k : HourTerms} {o : Outputs} {s : List ℕ} (g : Asks p a k o s) (z : List ℤ) (ez : z ≡ befores p a) where
   z_long : length z ≡ length a.entries.now
   z_long = ap length ez ∙ length-befores p a
 
@@ -106,7 +108,7 @@ module _ {p : List ℤ} {a : Amounts} {k : HourTerms} {q m : List ℤ} {s : List
     pub side-fits : n ≤ 2 * market_most
     side-fits = of_side.size
 
-    pub side_asked : SideAsks up n z k q m s
+    pub side_asked : SideAsks up n z k o s
     side_asked = record {
       input = record {
         users = omega (arith, length-sizes (side up n) z, sum_asked.0);
@@ -121,28 +123,30 @@ module _ {p : List ℤ} {a : Amounts} {k : HourTerms} {q m : List ℤ} {s : List
       scratches = g.scratches ∙ sym z_long;
     }
 
-    pub side_left : (z' q' m' : List ℤ) (s' : List ℕ) (r : Marks) → SideLeaves up n z z' k q' m' s s' r
-        → (o : Outcome) → o ≡ outcome (side up n) z → UsersLeave p z' a k q' m' s s' o
-    side_left z' q' m' s' r v o eo = record {
+    pub side_left : (z' : List ℤ) (o' : Outputs) (s' : List ℕ) (r : Marks) → SideLeaves up n z z' k o o' s s' r
+        → (x : Outcome) → x ≡ outcome (side up n) z → UsersLeave p z' a k o o' s s' x
+    side_left z' o' s' r v x ex = record {
       lists = record {
+        same = v.same;
         quantity = rw (← ez, ← is) v.quantity;
         money = rw (← ez, ← is) v.money;
         scratch = v.scratch;
-        answer = rw (← ez, ← is) eo;
+        answer = rw (← ez, ← is) ex;
       };
       places = rw (← ez, ← is) v.places;
     }
 
   -- neither
-  pub within_left : within ≡ imbalance k.upper k.lower z → (q' m' : List ℤ) (s' : List ℕ)
-      → q' ≡ replicate (length q) (pos 0) → m' ≡ replicate (length m) (pos 0) → s' ≡ replicate (length s) 0
-      → UsersLeave p z a k q' m' s s' Within
+  pub within_left : within ≡ imbalance k.upper k.lower z → (o' : Outputs) (s' : List ℕ) → Same o o'
+      → o'.quantity.now ≡ replicate (length o.quantity.now) (pos 0) → o'.money.now ≡ replicate (length o.money.now) (pos 0)
+      → s' ≡ replicate (length s) 0 → UsersLeave p z a k o o' s s' Within
   unfolding outcome after
-  within_left is q' m' s' eq eμ es =
-      let lq : length q ≡ length z = g.quantities ∙ sym z_long in
-      let lm : length m ≡ length z = g.moneys ∙ sym z_long in
+  within_left is o' s' same eq eμ es =
+      let lq : length o.quantity.now ≡ length z = g.quantities ∙ sym z_long in
+      let lm : length o.money.now ≡ length z = g.moneys ∙ sym z_long in
       record {
         lists = record {
+          same = same;
           quantity = rw (← ez, ← is, no_quantities z) (eq ∙ ap (λ (j : ℕ). replicate j (pos 0)) lq);
           money = rw (← ez, ← is, no_quantities z) (eμ ∙ ap (λ (j : ℕ). replicate j (pos 0)) lm ∙ sym (no_moneys k.excess_price k.shortfall_price (length z)));
           scratch = es;

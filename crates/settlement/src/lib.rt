@@ -7,7 +7,7 @@ ghost use Rattle.positions.specs.Before.{befores, InRange};
 ghost use Rattle.settlement.specs.Steps.{Asks, UsersLeave, ZoneLeaves, TableAsks, TableLeaves};
 
 use positions::Imbalance;
-use rules::{Amounts, HourTerms, Outcome, Side};
+use rules::{Amounts, HourTerms, Outcome, Outputs, Side};
 
 // ---- the users of a zone
 
@@ -18,8 +18,8 @@ fn add_amounts(positions: &mut [i64], amounts: &Amounts)
 {
     // A copy of the four references, so that a write to `positions` is seen to change none of them: it is a tenth of an hour's time.
     let amounts = *amounts;
-    for i in 0..positions.len() {
-        positions[i] = positions::before_of_user(positions[i], &amounts, i);
+    for (user, position) in positions.iter_mut().enumerate() {
+        *position = positions::before_of_user(*position, &amounts, user);
     }
 }
 
@@ -28,33 +28,28 @@ fn settle_users(
     positions: &mut [i64],
     amounts: &Amounts,
     terms: HourTerms,
-    quantity: &mut [i64],
-    money: &mut [i64],
+    outputs: &mut Outputs,
     scratch: &mut [u64],
 ) -> Outcome
     requires { (length positions.old ≡ length amounts.now.entries.now)
-        × Asks positions.old amounts.now terms quantity.old money.old scratch.old }
+        × Asks positions.old amounts.now terms outputs.old scratch.old }
     ensures { UsersLeave positions.old positions.new amounts.now terms
-        quantity.new money.new scratch.old scratch.new result }
+        outputs.old outputs.new scratch.old scratch.new result }
 {
     add_amounts(positions, amounts);
     let market = positions::sum_of(positions);
     match positions::imbalance_of(terms, market) {
         Imbalance::Excess(total) => {
-            let marked = sides::settle_side(
-                true, total, positions, terms, quantity, money, scratch,
-            );
+            let marked = sides::settle_side(true, total, positions, terms, outputs, scratch);
             Outcome::Settled(Side::Excess(total as i64), marked)
         }
         Imbalance::Shortfall(total) => {
-            let marked = sides::settle_side(
-                false, total, positions, terms, quantity, money, scratch,
-            );
+            let marked = sides::settle_side(false, total, positions, terms, outputs, scratch);
             Outcome::Settled(Side::Shortfall(total as i64), marked)
         }
         Imbalance::Within => {
-            quantity.fill(0);
-            money.fill(0);
+            outputs.quantity.fill(0);
+            outputs.money.fill(0);
             scratch.fill(0);
             Outcome::Within
         }
@@ -66,41 +61,33 @@ fn settle_zone(
     part: &mut [i64],
     amounts: &Amounts,
     terms: HourTerms,
-    quantity: &mut [i64],
-    money: &mut [i64],
+    outputs: &mut Outputs,
     scratch: &mut [u64],
 ) -> Outcome
-    requires { Asks part.old amounts.now terms quantity.old money.old scratch.old }
+    requires { Asks part.old amounts.now terms outputs.old scratch.old }
     ensures { ZoneLeaves part.old part.new amounts.now terms
-        quantity.new money.new scratch.old scratch.new result }
+        outputs.old outputs.new scratch.old scratch.new result }
 {
     let users = amounts.entries.len();
-    settle_users(&mut part[..users], amounts, terms, quantity, money, scratch)
+    settle_users(&mut part[..users], amounts, terms, outputs, scratch)
 }
 
-// An hour works on its zone's part of the table and leaves the other part untouched.
+// An hour works on its zone's part of the table and leaves the other part untouched: a branch for each part, as the papers name the form ("&mut table[128..256] is
+// lent on to the one-zone settlement").
 pub fn settle_table(
     table: &mut [i64],
     amounts: &Amounts,
     terms: HourTerms,
-    quantity: &mut [i64],
-    money: &mut [i64],
+    outputs: &mut Outputs,
     scratch: &mut [u64],
 ) -> Outcome
-    requires { TableAsks table.old amounts.now terms quantity.old money.old scratch.old }
+    requires { TableAsks table.old amounts.now terms outputs.old scratch.old }
     ensures { TableLeaves table.old table.new amounts.now terms
-        quantity.new money.new scratch.old scratch.new result }
+        outputs.old outputs.new scratch.old scratch.new result }
 {
     if terms.zone == 0 {
-        settle_zone(&mut table[0..128], amounts, terms, quantity, money, scratch)
+        settle_zone(&mut table[0..128], amounts, terms, outputs, scratch)
     } else {
-        settle_zone(
-            &mut table[128..256],
-            amounts,
-            terms,
-            quantity,
-            money,
-            scratch,
-        )
+        settle_zone(&mut table[128..256], amounts, terms, outputs, scratch)
     }
 }

@@ -13,8 +13,10 @@ use Rattle.largest_remainder.specs.Rule.{settled}
 use Rattle.apportionment.specs.Steps.{Input}
 use Rattle.largest_remainder.proofs.Guarantees.{no_more_than_size}
 use Rattle.rules.specs.Limits.{users_most, position_most, price_most}
+use Rattle.rules.specs.Hours.{Same}
 use Rattle.rules.specs.declared.HourTerms.{HourTerms}
 use Rattle.rules.specs.declared.Marks.{Marks}
+use Rattle.rules.specs.declared.Outputs.{Outputs}
 use Rattle.rules.specs.Market.{total, caused, size, sizes, settled_sizes, signed, quantities, after, money_of, moneys, marks, causers}
 use Rattle.rules.proofs.Settling.{length-sizes, length-quantities}
 use Rattle.rules.proofs.Small.{positions_small, terms_small}
@@ -73,7 +75,7 @@ after-side up [] ns = refl
 after-side up (p ∷ ps) [] = refl
 after-side up (p ∷ ps) (n ∷ ns) = ap (λ (l : List ℤ). (p -ℤ turn up n) ∷ l) (after-side up ps ns)
 
-module _ {up : Bool} {n : ℕ} {ps : List ℤ} {k : HourTerms} {q m : List ℤ} {s : List ℕ} (a : SideAsks up n ps k q m s) where
+module _ {up : Bool} {n : ℕ} {ps : List ℤ} {k : HourTerms} {o : Outputs} {s : List ℕ} (a : SideAsks up n ps k o s) where
   pub few : length ps ≤ users_most
   few = omega (arith, a.input.users, length-sizes (side up n) ps)
 
@@ -82,7 +84,7 @@ module _ {up : Bool} {n : ℕ} {ps : List ℤ} {k : HourTerms} {q m : List ℤ} 
     sizes_are : z ≡ sizes (side up n) ps
     sizes_are = ez ∙ sizes-side up n ps
 
-    pub apportion_asked : (length q ≡ length z) × Input z n
+    pub apportion_asked : (length o.quantity.now ≡ length z) × Input z n
     apportion_asked = rw sizes_are (a.quantities ∙ sym (length-sizes (side up n) ps), a.input)
 
     -- w are the settled sizes in the quantity list
@@ -100,7 +102,7 @@ module _ {up : Bool} {n : ℕ} {ps : List ℤ} {k : HourTerms} {q m : List ℤ} 
           let i = a.input in
           rw settled_are (at_most_pos (settled (sizes (side up n) ps) n) (λ j. omega (arith, no_more_than_size (sizes (side up n) ps) n i.some i.within j, i.small j)))
 
-      pub book_asked : (length w ≡ length ps) × (length m ≡ length ps) × AtMost position_most ps × AtMost position_most w
+      pub book_asked : (length w ≡ length ps) × (length o.money.now ≡ length ps) × AtMost position_most ps × AtMost position_most w
       book_asked = (settled-length, a.moneys, positions_small ps a.positions, settled_small)
 
       pub price_small : nat_abs (price_on up k) ≤ price_most
@@ -111,12 +113,14 @@ module _ {up : Bool} {n : ℕ} {ps : List ℤ} {k : HourTerms} {q m : List ℤ} 
           go true = (terms_small k a.terms).prices.excess
           go false = (terms_small k a.terms).prices.shortfall
 
-      pub side_left : (ps' q' m' : List ℤ) (s' : List ℕ) (r : Marks) → Booked up (price_on up k) ps ps' w q' m'
-          → s' ≡ replicate (length z) 0 → length z ≡ length s → r ≡ marks (causers (side up 0) ps) → SideLeaves up n ps ps' k q' m' s s' r
+      pub side_left : (ps' : List ℤ) (o' : Outputs) (s' : List ℕ) (r : Marks) → Same o o'
+          → Booked up (price_on up k) ps ps' w o'.quantity.now o'.money.now
+          → s' ≡ replicate (length z) 0 → length z ≡ length s → r ≡ marks (causers (side up 0) ps) → SideLeaves up n ps ps' k o o' s s' r
       unfolding after
-      side_left ps' q' m' s' r b es lz er =
+      side_left ps' o' s' r same b es lz er =
           let e : map (turn up) w ≡ quantities (side up n) ps = ap (map (turn up)) settled_are ∙ quantities-side up n ps in
           record {
+            same = same;
             places = b.positions ∙ after-side up ps w ∙ ap (zip_with ◌-ℤ◌ ps) e;
             quantity = b.quantity ∙ e;
             money =

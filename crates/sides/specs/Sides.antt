@@ -5,7 +5,9 @@ use Rattle.integers.specs.Lists.{every}
 use Rattle.apportionment.specs.Steps.{Input}
 use Rattle.rules.specs.declared.HourTerms.{HourTerms}
 use Rattle.rules.specs.declared.Marks.{Marks}
+use Rattle.rules.specs.declared.Outputs.{Outputs}
 use Rattle.rules.specs.Limits.{position_fit}
+use Rattle.rules.specs.Hours.{Same}
 use Rattle.rules.specs.Market.{Imbalance, excess, shortfall, sizes, quantities, after, moneys, marks, causers}
 use Rattle.rules.specs.Causes.{terms_fit}
 
@@ -28,17 +30,18 @@ pub record Booked (up : Bool) (price : ℤ) (ps ps' ns q' m' : List ℤ) : Type 
   pub money : m' ≡ map (λ n. turn up n *ℤ price) ns
   pub positions : ps' ≡ zip_with (λ p n. p -ℤ turn up n) ps ns
 
-pub record SideAsks (up : Bool) (n : ℕ) (ps : List ℤ) (k : HourTerms) (q m : List ℤ) (s : List ℕ) : Type 0 where
+pub record SideAsks (up : Bool) (n : ℕ) (ps : List ℤ) (k : HourTerms) (o : Outputs) (s : List ℕ) : Type 0 where
   pub input : Input (sizes (side up n) ps) n
   pub positions : every position_fit ps ≡ true
   pub terms : terms_fit k ≡ true
-  pub quantities : length q ≡ length ps
-  pub moneys : length m ≡ length ps
+  pub quantities : length o.quantity.now ≡ length ps
+  pub moneys : length o.money.now ≡ length ps
   pub scratches : length s ≡ length ps
 
-pub record SideLeaves (up : Bool) (n : ℕ) (ps ps' : List ℤ) (k : HourTerms) (q' m' : List ℤ) (s s' : List ℕ) (r : Marks) : Type 0 where
+pub record SideLeaves (up : Bool) (n : ℕ) (ps ps' : List ℤ) (k : HourTerms) (o o' : Outputs) (s s' : List ℕ) (r : Marks) : Type 0 where
+  pub same : Same o o'
   pub places : ps' ≡ after (side up n) ps
-  pub quantity : q' ≡ quantities (side up n) ps
-  pub money : m' ≡ moneys k.excess_price k.shortfall_price (quantities (side up n) ps)
+  pub quantity : o'.quantity.now ≡ quantities (side up n) ps
+  pub money : o'.money.now ≡ moneys k.excess_price k.shortfall_price (quantities (side up n) ps)
   pub scratch : s' ≡ replicate (length s) 0
   pub marked : r ≡ marks (causers (side up n) ps)

@@ -9,7 +9,7 @@ ghost use Rattle.rules.specs.Causes.{terms_fit};
 ghost use Rattle.rules.specs.Market.{caused, size, word, marks, causers};
 ghost use Rattle.sides.specs.Sides.{side, turn, price_on, Booked, SideAsks, SideLeaves};
 
-use rules::{HourTerms, Marks};
+use rules::{HourTerms, Marks, Outputs};
 
 // `up` is an excess, else a shortfall. It stays a `bool`: the definitions turn by the same `up`, and an enum would name the two cases once more.
 
@@ -45,9 +45,8 @@ fn size_all(up: bool, positions: &[i64], sizes: &mut [u64])
     requires { (length sizes.old ≡ length positions.now) × AtMost position_most positions.now }
     ensures { sizes.new ≡ map (size (side up 0)) positions.now }
 {
-    // By index: a `zip` over `iter_mut` leaves its loop without a name for the list that is written, which the invariant needs.
-    for i in 0..positions.len() {
-        sizes[i] = size_on(up, positions[i]);
+    for (i, position) in positions.iter().enumerate() {
+        sizes[i] = size_on(up, *position);
     }
 }
 
@@ -93,7 +92,8 @@ fn price_on(up: bool, terms: HourTerms) -> i64
     }
 }
 
-// The settled sizes in `quantity` become quantities; money and positions after go with them.
+// The settled sizes in `quantity` become quantities; money and positions after go with them. (Each list by itself: as `Outputs` the pass would write behind two
+// references, and its invariant say at each turn that they are the ones lent.)
 fn book_all(up: bool, price: i64, positions: &mut [i64], quantity: &mut [i64], money: &mut [i64])
     requires { (length quantity.old ≡ length positions.old) × (length money.old ≡ length positions.old)
         × (nat_abs price ≤ price_most)
@@ -102,11 +102,11 @@ fn book_all(up: bool, price: i64, positions: &mut [i64], quantity: &mut [i64], m
         positions.old positions.new
         quantity.old quantity.new money.new }
 {
-    for i in 0..positions.len() {
+    for (i, position) in positions.iter_mut().enumerate() {
         let sold = turned(up, quantity[i]);
         quantity[i] = sold;
         money[i] = sold * price;
-        positions[i] -= sold;
+        *position -= sold;
     }
 }
 
@@ -116,18 +116,23 @@ pub fn settle_side(
     total: u64,
     positions: &mut [i64],
     terms: HourTerms,
-    quantity: &mut [i64],
-    money: &mut [i64],
+    outputs: &mut Outputs,
     scratch: &mut [u64],
 ) -> Marks
-    requires { SideAsks up total positions.old terms quantity.old money.old scratch.old }
+    requires { SideAsks up total positions.old terms outputs.old scratch.old }
     ensures { SideLeaves up total
         positions.old positions.new terms
-        quantity.new money.new scratch.old scratch.new result }
+        outputs.old outputs.new scratch.old scratch.new result }
 {
     let marked = marks_of(up, positions);
     size_all(up, positions, scratch);
-    apportionment::apportion(scratch, total, quantity);
-    book_all(up, price_on(up, terms), positions, quantity, money);
+    apportionment::apportion(scratch, total, outputs.quantity);
+    book_all(
+        up,
+        price_on(up, terms),
+        positions,
+        outputs.quantity,
+        outputs.money,
+    );
     marked
 }

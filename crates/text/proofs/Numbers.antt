@@ -1,18 +1,34 @@
--- When there is a number, and how large it is. Assumes nothing.
+-- How a number goes on by a digit, when there is one, and how large it is. Assumes nothing.
 use mathlib.Core.Path.{◌≡◌, refl}
-use mathlib.Core.Bool.{Bool, true, false, ◌&&◌, cond}
+use mathlib.Core.Bool.{Bool, true, false, ◌&&◌, cond, and-false}
 use mathlib.Core.List.{List, [], ◌∷◌}
 use Prim.Native.Nat.{ℕ, suc, ◌+◌, ◌-◌, ◌*◌, ◌^◌, ◌≤◌, ◌<◌}
 use native.Mathlib.Nat.{pow-succ', pow-le-pow_right, add-zero, lt_of_lt_of_le}
 use native.Mathlib.Numerals.{add-one}
 use native.Mathlib.Omega.{arith}
 use lib.Dec.{eqb, leb, lit<}
-use lib.ListN.{length, get_or}
-use borrow.Author.Tests.{leb-true}
+use lib.ListN.{length, get_or, drop}
+use lib.Seq.{drop-cons}
+use borrow.Author.Tests.{leb-true, le-leb, lt-leb}
 use Rattle.std.specs.Prelude.{Option, Some, None, IfSome}
 use Rattle.integers.proofs.Tests.{and_true}
 use Rattle.text.specs.Bytes.{digit0, digit9}
 use Rattle.text.specs.Numbers.{is_digit, digits_from, digits_of, needless_zero, unsigned_of}
+
+-- ---- one digit further
+module _ (f : List ℕ) (i v : ℕ) (h : i < length f) where
+  -- a byte below the digits
+  pub below-digits : get_or f i 0 < digit0 → digits_from v (drop i f) ≡ None
+  below-digits e = rw (drop-cons f i 0, lt-leb _ _ e)
+
+  -- a byte above the digits
+  pub above-digits : digit9 < get_or f i 0 → digits_from v (drop i f) ≡ None
+  above-digits e = rw (drop-cons f i 0, lt-leb _ _ e, and-false)
+
+  -- a digit
+  pub next_digit : digit0 ≤ get_or f i 0 → get_or f i 0 ≤ digit9
+      → digits_from v (drop i f) ≡ digits_from (v * 10 + (get_or f i 0 - digit0)) (drop (i + 1) f)
+  next_digit e g = rw (add-one, drop-cons f i 0, le-leb _ _ e, le-leb _ _ g)
 
 -- nine digits are below 10 ^ 9
 pub tens : (i : ℕ) → i < 9 → (10 ^ (i + 1) ≡ 10 * 10 ^ i) × (10 ^ i ≤ 100000000)

@@ -8,7 +8,7 @@ use native.Mathlib.Omega.{arith}
 use lib.Dec.{eqb, leb}
 use lib.ListN.{length, get_or, take, drop, length-append, length-drop}
 use lib.Seq.{get_or_at, split_at}
-use borrow.Author.Tests.{eqb-true, ne_eqb}
+use borrow.Author.Tests.{eqb-true, ne_eqb, eq-eqb, le-leb}
 use Rattle.std.specs.Prelude.{Option, Some, None}
 use Rattle.text.specs.Bytes.{point, digit0}
 use Rattle.text.specs.Numbers.{is_digit, digits_from, digits_of, needless_zero, unsigned_of, has_point, before_point, after_point, whole_of, decimals_of, mwh_of, size_of}
@@ -114,6 +114,10 @@ module _ (w d : List ℕ) (short : length w ≤ 6) (three : length d ≡ 3) wher
   -- three digits are not too many
   three_digits : digits_of d ≡ digits_from 0 d
   three_digits = rw three
+
+  -- the size, by what the two are read as
+  pub parts_size : (u v : Option ℕ) → unsigned_of w ≡ u → digits_of d ≡ v → mwh_of (whole_of w) (decimals_of d) ≡ mwh_of u v
+  parts_size u v p q = rw (le-leb (length w) 6 short, p, eq-eqb (length d) 3 three, sym three_digits ∙ q)
 
   -- which are small
   pub parts_small : (m k : ℕ) → unsigned_of w ≡ Some m → digits_of d ≡ Some k → (m < 10 ^ 6) × (k < 10 ^ 3)

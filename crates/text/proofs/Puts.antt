@@ -6,7 +6,7 @@ use native.Mathlib.Numerals.{add-one}
 use native.Mathlib.Omega.{arith}
 use lib.IntN.{ℤ}
 use lib.ListN.{length, take, drop, set, length-append, length-drop}
-use lib.Seq.{length-take-le, take_at, drop-append-add, drop-drop, set_split, append_snoc, paste-zero}
+use lib.Seq.{length-take-le, take_at, drop-append-add, drop-drop, set_split, append_snoc, take-length, paste, paste-zero}
 use mir.Syntax.{w64}
 use mir.Val.{to_z, of_z}
 use Rattle.text.specs.declared.writing.Writer.{Writer}
@@ -54,6 +54,12 @@ module _ {out : List ℕ} {at : ℕ} {a o₁ : List ℕ} {e₁ : ℕ} (p : Put o
 pub put_byte : (out : List ℕ) (at b : ℕ) → at < length out → Put out at (b ∷ []) (set out at b) (at + 1)
 put_byte out at b h =
     record { ends = refl; room = omega arith; bytes = set_split out at b h ∙ rw (add-one) (sym (append_snoc (take at out) b _)) }
+
+-- the first i bytes of a text, stored one by one, are the text where they are all of it
+pub put_all : (out : List ℕ) (at : ℕ) (text out' : List ℕ) (i : ℕ)
+    → at + length text ≤ length out → i ≡ length text → out' ≡ paste out at text i
+    → Put out at text out' (at + i)
+put_all out at text out' i h e k = record { ends = rw e; room = h; bytes = k ∙ rw (e, take-length text) }
 
 pub put_none : (out : List ℕ) (at : ℕ) → at ≤ length out → Put out at [] out at
 put_none out at h = record { ends = omega arith; room = omega arith; bytes = paste-zero out at [] }

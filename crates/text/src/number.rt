@@ -30,6 +30,7 @@ pub fn read_unsigned(field: &[u8]) -> Option<u32>
 }
 
 // A size in MWh: at most six digits of whole MWh, and the three digits of their thousandths, which are kWh.
+#[tactic(auto, using(crate::proofs::Points::parts_small))]
 fn read_mwh(whole: &[u8], decimals: &[u8]) -> Option<u32>
     requires { length decimals.now ≡ 3 }
     ensures { result ≡ mwh_of (whole_of whole.now) (decimals_of decimals.now) }
@@ -44,6 +45,7 @@ fn read_mwh(whole: &[u8], decimals: &[u8]) -> Option<u32>
 
 // A size in kWh, or in MWh if a point stands before the last three bytes. A point anywhere else is no digit: such a
 // field is no number.
+#[tactic(auto, using(crate::proofs::Points::in_kwh_lem))]
 fn read_size(field: &[u8]) -> Option<u32>
     ensures { result ≡ size_of field.now }
 {

@@ -2,7 +2,7 @@
 use mathlib.Core.Path.{◌≡◌, refl, sym, ap, ◌∙◌}
 use mathlib.Core.Bool.{Bool, true, false, cond}
 use mathlib.Core.List.{List, [], ◌∷◌, map, map-id}
-use Prim.Native.Nat.{ℕ, zero, suc, ◌≤◌, ◌<◌}
+use Prim.Native.Nat.{ℕ, ◌<◌}
 use native.Mathlib.Omega.{arith}
 use lib.Dec.{eqb}
 use lib.ListN.{length}
@@ -13,10 +13,12 @@ use Rattle.integers.proofs.Tests.{and_true}
 use Rattle.text.specs.Bytes.{comma, quote_mark, carriage_return, line_feed}
 use Rattle.text.specs.Numbers.{has_point}
 use Rattle.csv_lines.specs.Lines.{fields, field_at, lines}
-use Rattle.allocation_row.specs.Rows.{is_plain, is_form, letter_h, letter_l, zone_of, as_row, row_of, fields_of as row_fields}
+use Rattle.allocation_row.specs.Rows.{is_plain, is_form, letter, zone_of, as_row, row_of, fields_of as row_fields}
 use Rattle.allocation_row.specs.declared.Row.{Row}
+use Rattle.allocation_row.specs.declared.Zone.{Zone}
+use Rattle.allocation_row.specs.declared.Zone.TheVariants.{H, L}
 use Rattle.allocation_row.specs.declared.FileCause.TheVariants.{Form, Field}
-use Rattle.allocation_text.specs.Text.{letter, field_texts, joined, line_text}
+use Rattle.allocation_text.specs.Text.{field_texts, joined, line_text}
 use Rattle.allocation_writer.specs.Writer.{ended}
 use Rattle.file_guarantees.specs.Guarantees.{NineDigits}
 use Rattle.file_guarantees.proofs.Rows.{MadeOf, made_of}
@@ -31,32 +33,25 @@ use Rattle.writer_guarantees.proofs.Lines.{line-ended}
 -- ---- the zone's letter
 
 -- written and read
-zone_back : (z : ℕ) → z ≤ 1 → zone_of (letter z ∷ []) ≡ Some z
-unfolding letter
-zone_back zero h = refl
-zone_back (suc zero) h = refl
-zone_back (suc (suc z)) h = absurd (omega arith)
+zone_back : (z : Zone) → zone_of (letter z ∷ []) ≡ Some z
+zone_back H = refl
+zone_back L = refl
 
 -- read and written
-zone_text_lem : (f : List ℕ) (z : ℕ) → zone_of f ≡ Some z → f ≡ letter z ∷ []
-unfolding letter
+zone_text_lem : (f : List ℕ) (z : Zone) → zone_of f ≡ Some z → f ≡ letter z ∷ []
 zone_text_lem [] z e = let q : ◌≡◌ {A = ℕ} 0 1 = cc in absurd (omega arith)
-zone_text_lem (x ∷ []) z e = go (eqb x letter_h) (eqb x letter_l) refl refl e
+zone_text_lem (x ∷ []) z e = go (eqb x (letter H)) (eqb x (letter L)) refl refl e
   where
-    go : (a b : Bool) → eqb x letter_h ≡ a → eqb x letter_l ≡ b → cond a (Some 0) (cond b (Some 1) None) ≡ Some z → x ∷ [] ≡ letter z ∷ []
-    go true b h l e = let q : 0 ≡ z = cc in rw (eqb-true x letter_h h, ← q)
-    go false true h l e = let q : 1 ≡ z = cc in rw (eqb-true x letter_l l, ← q)
+    go : (a b : Bool) → eqb x (letter H) ≡ a → eqb x (letter L) ≡ b → cond a (Some H) (cond b (Some L) None) ≡ Some z → x ∷ [] ≡ letter z ∷ []
+    go true b h l e = let q : H ≡ z = cc in rw (eqb-true x (letter H) h, ← q)
+    go false true h l e = let q : L ≡ z = cc in rw (eqb-true x (letter L) l, ← q)
     go false false h l e = let q : ◌≡◌ {A = ℕ} 0 1 = cc in absurd (omega arith)
 zone_text_lem (x ∷ y ∷ ys) z e = let q : ◌≡◌ {A = ℕ} 0 1 = cc in absurd (omega arith)
 
 -- a letter is above the comma
-letter-above : (z : ℕ) → comma < letter z
-unfolding letter
-letter-above z = go (eqb z 0)
-  where
-    go : (b : Bool) → comma < cond b letter_h letter_l
-    go true = omega arith
-    go false = omega arith
+letter-above : (z : Zone) → comma < letter z
+letter-above H = omega arith
+letter-above L = omega arith
 
 -- ---- the line of a row
 
@@ -96,7 +91,7 @@ row_back r n =
       plain (line_text r) (line-above r),
       line-fields r,
       unsigned_back r.hour n.hour,
-      zone_back r.zone n.zone,
+      zone_back r.zone,
       unsigned_back r.place n.place,
       amount_back r.entry n.entry,
       amount_back r.exit n.exit,

@@ -9,11 +9,11 @@ pub zone_amounts_cause-requires : goal.zone_amounts_cause-requires
 zone_amounts_cause-requires c =
     let a = c.args in
     rw (back a.terms.zone (search rules))
-    (hour_lent a.day a.table.now a.amounts.now a.quantity.now a.money.now a.scratch.now (search rules) (search rules) a.terms (search rules) (search rules))
+    (hour_lent a.day a.table.now a.amounts.now a.outputs.now a.scratch.now (search rules) (search rules) a.terms (search rules) (search rules))
 
 pub returns : goal.returns
 returns c =
     let a = c.args in
     (rw (back a.terms.zone (search rules)) at c.zone_amounts_cause.ensures)
-    ∙ hour_amounts a.day a.table.now a.amounts.now a.quantity.now a.money.now a.scratch.now (search rules) (search rules) a.terms
+    ∙ hour_amounts a.day a.table.now a.amounts.now a.outputs.now a.scratch.now (search rules) (search rules) a.terms
     (search rules) (search rules) (search rules) (search rules) (search rules)

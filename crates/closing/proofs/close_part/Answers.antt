@@ -5,6 +5,7 @@ use Rattle.integers.proofs.Machine.{read, read_le, fits}
 use Rattle.rules.specs.Limits.{price_most}
 use Rattle.rules.proofs.Small.{prices_small}
 use Rattle.closing.proofs.Parts.{quantity_asked, money_asked, part_left}
+use borrow.Author.Rules.{rules}
 use native.Mathlib.Omega.{arith}
 use Rattle.closing.proofs.close_part.Goals as goal
 
@@ -13,15 +14,11 @@ money_all-requires c =
     let k = c.args.terms in
     let b = prices_small _ _ c.requires.prices in
     let e = read_le k.excess_price price_most b.excess in
-    let f = read_le k.shortfall_price price_most b.shortfall in (
-      omega (arith, e, f),
-      omega (arith, e, f),
-      money_asked c.requires _ c.copy_from_slice.ensures.after,
-      (quantity_asked c.requires _ c.copy_from_slice.ensures.after).1,
-    )
+    let f = read_le k.shortfall_price price_most b.shortfall in
+    (omega (arith, e, f), omega (arith, e, f), money_asked c.requires, (quantity_asked c.requires).1)
 
 pub sums_of-sums-requires : goal.sums_of-sums-requires
-sums_of-sums-requires c = quantity_asked c.requires _ c.copy_from_slice.ensures.after
+sums_of-sums-requires c = quantity_asked c.requires
 
 pub returns : goal.returns
 returns c =
@@ -29,7 +26,8 @@ returns c =
     let b = prices_small _ _ c.requires.prices in
     let e = read (fits k.excess_price (omega (arith, b.excess))) in
     let f = read (fits k.shortfall_price (omega (arith, b.shortfall))) in
-    part_left c.requires _ c.copy_from_slice.ensures.after _ _ _ _
+    part_left c.requires _ _ _ _ (record { quantity = search rules; money = search rules })
+    c.copy_from_slice.ensures.after
     (rw (e, f) at c.money_all.ensures)
     c.sums_of-sums.ensures.0
     c.sums_of-sums.ensures.1

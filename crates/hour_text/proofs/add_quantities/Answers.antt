@@ -10,8 +10,8 @@ use Rattle.hour_text.specs.Lent.{sums}
 use Rattle.hour_text.proofs.Adding.{length-sums, sums_at, sum_fits}
 use Rattle.hour_text.proofs.add_quantities.Goals as goal
 
-pub overflow_add-before : goal.overflow_add-before
-overflow_add-before c =
+pub overflow_add-sum : goal.overflow_add-sum
+overflow_add-sum c =
     let a = c.args in
     let i = c.loop-i.i in
     sum_fits a.quantity.now a.after.now c.requires i (search rules)
@@ -25,7 +25,7 @@ loop-i-preserved c =
     let first = back (get_or q l.i (pos 0)) (search rules) in
     let second = back (get_or a l.i (pos 0)) (search rules) in
     written_next (sums q a) c.args.before.now l.before l.i l.invariant (length-sums q a ∙ sym c.requires.outs) (pos 0) _ (omega (arith, c.requires.outs))
-    (read (overflow_add-before c) ∙ ap₂ (λ (x y : ℤ). x +ℤ y) first second ∙ sym (sums_at q a l.i (search rules)))
+    (read (overflow_add-sum c) ∙ ap₂ (λ (x y : ℤ). x +ℤ y) first second ∙ sym (sums_at q a l.i (search rules)))
 
 pub returns : goal.returns
 returns c =

@@ -20,8 +20,8 @@ module _ (c : After-first_place-start) where
 
   is-after : let a = c.args in
       let p = c.first_place-start.result in
-      take (p + length a.quantity.now - p) (drop p a.table.now) ≡ afters a.zone (length a.quantity.now) a.table.now
-  is-after = let a = c.args in after_is a.zone a.table.now _ (length a.quantity.now) start c.requires.users
+      take (p + length a.outputs.now.quantity.now - p) (drop p a.table.now) ≡ afters a.zone (length a.outputs.now.quantity.now) a.table.now
+  is-after = let a = c.args in after_is a.zone a.table.now _ (length a.outputs.now.quantity.now) start c.requires.users
 
 pub overflow_add-end : goal.overflow_add-end
 overflow_add-end c = omega (arith, below (goal.at.overflow_add-end c).After-first_place-start, c.requires.users)
@@ -39,5 +39,5 @@ add_quantities-requires c = adds_of c.requires (is-after (goal.at.add_quantities
 pub returns : goal.returns
 returns c =
     let a = c.args in
-    settled_wrote a.zone a.table.now a.quantity.now a.money.now _ _ (is-after (goal.at.returns c).After-first_place-start)
+    settled_wrote a.zone a.table.now a.outputs.now.quantity.now a.outputs.now.money.now _ _ (is-after (goal.at.returns c).After-first_place-start)
     c.add_quantities.ensures c.write_hour.ensures

@@ -12,6 +12,7 @@ use Rattle.positions.specs.declared.Imbalance.{Imbalance}
 use Rattle.positions.specs.Against.{found}
 use Rattle.sides.specs.Sides.{side}
 use Rattle.settlement.proofs.Users.{sum_asked, market_small, side-fits, side_asked, side_left, within_left}
+use borrow.Author.Rules.{rules}
 use native.Mathlib.Omega.{arith}
 use Rattle.settlement.proofs.settle_users.Goals.{After-imbalance_of}
 use Rattle.settlement.proofs.settle_users.Goals as goal
@@ -52,7 +53,7 @@ returns-in-Excess c =
     let d = (goal.at.returns-in-Excess c).After-imbalance_of in
     let v = c.settle_side-marked.ensures in
     rw (read (overflow_cast-result c))
-    (side_left c.requires.1 _ c.add_amounts.ensures true _ (against d c.in-Excess.is) _ _ _ _ _ v _
+    (side_left c.requires.1 _ c.add_amounts.ensures true _ (against d c.in-Excess.is) _ _ _ _ v _
     (ap (Settled (Excess (pos c.in-Excess.total))) v.marked))
 
 -- ---- in a shortfall
@@ -74,7 +75,7 @@ returns-in-Shortfall c =
     let d = (goal.at.returns-in-Shortfall c).After-imbalance_of in
     let v = c.settle_side-marked-in-Shortfall.ensures in
     rw (read (overflow_cast-result-in-Shortfall c))
-    (side_left c.requires.1 _ c.add_amounts.ensures false _ (against d c.in-Shortfall.is) _ _ _ _ _ v _
+    (side_left c.requires.1 _ c.add_amounts.ensures false _ (against d c.in-Shortfall.is) _ _ _ _ v _
     (ap (Settled (Shortfall (pos c.in-Shortfall.total))) v.marked))
 
 -- ---- within the thresholds
@@ -82,5 +83,5 @@ pub returns-in-Within : goal.returns-in-Within
 returns-in-Within c =
     let d = (goal.at.returns-in-Within c).After-imbalance_of in
     let same = λ (x : ℤ) (e : x ≡ pos 0). e in
-    within_left c.requires.1 _ c.add_amounts.ensures (against d c.in-Within.is) _ _ _
+    within_left c.requires.1 _ c.add_amounts.ensures (against d c.in-Within.is) _ _ (record { quantity = search rules; money = search rules })
     (c.fill.ensures.after same) (c.fill-in-Within.ensures.after same) (c.fill-in-Within-2.ensures.after (λ (n : ℕ) (e : n ≡ 0). e))

@@ -5,7 +5,7 @@ use Rattle.settlement.proofs.settle_zone.Goals as goal
 pub settle_users-requires : goal.settle_users-requires
 settle_users-requires c =
     let a = c.args in
-    users_asked a.part.now a.amounts.now a.terms _ _ _ c.requires
+    users_asked a.part.now a.amounts.now a.terms _ _ c.requires
 
 pub returns : goal.returns
 returns c =

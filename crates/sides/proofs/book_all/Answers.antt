@@ -39,9 +39,9 @@ overflow_mul-money c =
     let k = size-mul-le q p position_most price_most (size c) (read_le c.args.price price_most c.requires.2) in
     fits (q *ℤ p) (lt_of_le_of_lt k (omega arith))
 
-pub overflow_sub-positions : goal.overflow_sub-positions
-overflow_sub-positions c =
-    let d = (goal.at.overflow_sub-positions c).After-turned-sold in
+pub overflow_sub-position : goal.overflow_sub-position
+overflow_sub-position c =
+    let d = (goal.at.overflow_sub-position c).After-turned-sold in
     let l = c.loop-i in
     omega (arith, fits_sub, size d, read_still c.requires.3 l.positions l.i (position_still l.invariant c.requires.0 c.requires.1 (room d)))
 
@@ -51,7 +51,7 @@ loop-i-preserved c =
     let l = c.loop-i in
     let p = position_still l.invariant c.requires.0 c.requires.1 (room d) in
     booking_next l.invariant c.requires.0 c.requires.1 (room d) _ _ _
-    (read (overflow_sub-positions c) ∙ ap₂ (λ (x y : ℤ). x -ℤ y) (back (get_or l.positions l.i (pos 0)) (search rules) ∙ p) (value d))
+    (read (overflow_sub-position c) ∙ ap₂ (λ (x y : ℤ). x -ℤ y) (back (get_or l.positions l.i (pos 0)) (search rules) ∙ p) (value d))
     (value d)
     (read (overflow_mul-money d) ∙ ap (λ (q : ℤ). q *ℤ to_z w64 (of_z w64 c.args.price)) (value d))
 

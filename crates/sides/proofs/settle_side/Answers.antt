@@ -26,5 +26,6 @@ book_all-requires c =
 pub returns : goal.returns
 returns c =
     let price = back _ c.price_on.type_inv ∙ c.price_on.ensures in
-    side_left c.requires _ c.size_all.ensures _ c.apportion.ensures.shares _ _ _ _ _ (rw price at c.book_all.ensures)
+    side_left c.requires _ c.size_all.ensures _ c.apportion.ensures.shares _ _ _ _ (record { quantity = search rules; money = search rules })
+    (rw price at c.book_all.ensures)
     c.apportion.ensures.cleared (search rules) c.marks_of-marked.ensures

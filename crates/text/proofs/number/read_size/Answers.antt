@@ -1,4 +1,4 @@
--- A point before the last three bytes parts the field; a point elsewhere leaves no number. Assumes nothing.
+-- A point before the last three bytes parts the field. Assumes nothing.
 use mathlib.Core.Path.{◌≡◌, sym, ap, ◌∙◌}
 use mathlib.Core.List.{List}
 use Prim.Native.Nat.{ℕ, ◌+◌, ◌-◌}
@@ -6,9 +6,8 @@ use native.Mathlib.Omega.{arith}
 use lib.ListN.{length, take, drop, length-drop}
 use lib.Seq.{take_all}
 use Rattle.text.specs.Numbers.{whole_of, decimals_of, mwh_of}
-use Rattle.text.proofs.Points.{in_mwh_lem, in_kwh_lem}
+use Rattle.text.proofs.Points.{in_mwh_lem}
 use Rattle.text.proofs.number.read_size.Goals as goal
-use Rattle.text.proofs.number.read_size.Goals.{then-field-gt3+else-field-point-eq46, else-field-gt3}
 
 pub returns-then-field-point-eq46 : goal.returns-then-field-point-eq46
 returns-then-field-point-eq46 c =
@@ -17,11 +16,3 @@ returns-then-field-point-eq46 c =
     let three : take (length f - (n + 1)) (drop (n + 1) f) ≡ drop (n + 1) f = take_all (length f - (n + 1)) (drop (n + 1) f) (simp length-drop (omega arith)) in
     c.read_mwh.ensures ∙ ap (λ (t : List ℕ). mwh_of (whole_of (take n f)) (decimals_of t)) three
     ∙ sym (in_mwh_lem f n (omega arith) c.if-field-point-eq46.true)
-
-pub returns : goal.returns
-returns c =
-    let f = c.args.field.now in
-    elim c.if-field-gt3.branch [
-      | then-field-gt3+else-field-point-eq46 w ↦ rw (in_kwh_lem f (λ l e. w.if-field-point-eq46.false e)) c.read_unsigned.ensures
-      | else-field-gt3 w ↦ rw (in_kwh_lem f (λ l e. absurd (omega (arith, w.if-field-gt3.false)))) c.read_unsigned.ensures
-    ]

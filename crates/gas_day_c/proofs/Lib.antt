@@ -1,0 +1,2 @@
+-- Why the calls for C answer as their specifications say.
+mod Calls
