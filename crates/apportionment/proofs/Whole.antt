@@ -13,11 +13,12 @@ use borrow.Author.Tests.{ltb-true, ltb-false}
 use Rattle.integers.proofs.Counts.{get_or-map_at, get_or-le-sum}
 use Rattle.largest_remainder.specs.Rule.{whole, fraction, spare, settled}
 use Rattle.largest_remainder.specs.Cuts.{above, IsCut}
-use Rattle.apportionment.specs.Steps.{Input, raised_by, Bounded, CutAsks, HandAsks, Shared}
+use Rattle.apportionment.specs.Pass.{raised_by}
+use Rattle.apportionment.specs.Steps.{Input, ties_broken, Bounded, CutAsks, HandAsks, Shared}
 use Rattle.largest_remainder.proofs.Parts.{wholes_le, fraction-less, spare-le, settled_cut, settled-length, settled-get_or}
 use Rattle.rules.specs.Limits.{market_most}
 use Rattle.apportionment.proofs.Sharing.{sum_fits}
-use Rattle.apportionment.proofs.Handing.{raised_length, raised_at}
+use Rattle.apportionment.proofs.Handing.{broken_length, broken-above, broken-count, raised_length, raised_at}
 
 module _ {sizes : List ℕ} {total : ℕ} {rs : List ℕ} {out : List ℤ} {given low top : ℕ} (n : Input sizes total)
     (k : Shared sizes total rs out given low top) where
@@ -57,26 +58,26 @@ module _ {sizes : List ℕ} {total : ℕ} {rs : List ℕ} {out : List ℤ} {give
   out_at : (i : ℕ) → get_or out i (pos 0) ≡ pos (get_or (map (whole sizes total) sizes) i 0)
   out_at i = ap (λ (q : List ℤ). get_or q i (pos 0)) k.wholes ∙ ListN.get_or-map pos (map (whole sizes total) sizes) i 0
 
-  pub hand_asked : (at ties : ℕ) → IsCut rs (total - given) at ties → at ≤ market_most → HandAsks rs at ties (total - given) out
-  hand_asked at ties c b = record {
-    long = rests_length ∙ sym out_length;
+  pub hand_asked : (at ties : ℕ) → IsCut rs (total - given) at ties → HandAsks (ties_broken rs at ties) at (total - given) out
+  hand_asked at ties c = record {
+    long = broken_length rs at ties ∙ rests_length ∙ sym out_length;
     small = λ i. rw (out_at i) (omega (arith, get_or-le-sum (map (whole sizes total) sizes) i, wholes_le sizes total n.some, n.within, sum_fits sizes total n));
-    cut = c;
-    top = b;
-    bounded = bounded;
+    units = broken-count rs at ties (total - given) c;
   }
 
-  pub settled_by : (at ties : ℕ) → IsCut rs (total - given) at ties → raised_by rs at ties out ≡ map pos (settled sizes total)
+  pub settled_by : (at ties : ℕ) → IsCut rs (total - given) at ties → raised_by (ties_broken rs at ties) at out ≡ map pos (settled sizes total)
   settled_by at ties cut =
-      let long = raised_length rs at ties out ∙ out_length in
+      let bs = ties_broken rs at ties in
+      let long = raised_length bs at out ∙ out_length in
       let c : IsCut (map (fraction sizes total) sizes) (spare sizes total) at ties = rw (k.fractions, spare_is) at cut in
-      ext_get_or (pos 0) (raised_by rs at ties out) (map pos (settled sizes total))
+      ext_get_or (pos 0) (raised_by bs at out) (map pos (settled sizes total))
       (long ∙ sym (length-map (settled sizes total) pos ∙ settled-length sizes total)) (λ i l.
       let j : i < length sizes = omega arith in
-      raised_at rs at ties out i (omega (arith, out_length))
+      raised_at bs at out i (omega (arith, out_length))
       ∙ rw (
         out_at i,
         get_or-map_at (whole sizes total) sizes i 0 0 j,
+        broken-above rs at ties i (omega (arith, rests_length)),
         k.fractions,
       )
       (ap pos (sym (settled-get_or sizes total i j ∙ settled_cut sizes total n.some i j at ties c)))

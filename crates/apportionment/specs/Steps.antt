@@ -1,8 +1,8 @@
 -- The steps by which the code finds the settled sizes, as its private contracts state them. A reader who believes the rule need not believe these. Assumes nothing.
-use Rattle.std.specs.Prelude.{◌≡◌, List, map, ℕ, ◌≤◌, ◌<◌, ℤ, pos, nat_abs, ◌+ℤ◌, length, get_or, replicate}
+use Rattle.std.specs.Prelude.{◌≡◌, ◌&&◌, List, map, ℕ, ◌+◌, ◌≤◌, ◌<◌, ltb, eqb, ℤ, pos, nat_abs, length, get_or, take, replicate}
 use Rattle.integers.specs.Lists.{bit, sum, tabulate}
 use Rattle.largest_remainder.specs.Rule.{whole, fraction, settled}
-use Rattle.largest_remainder.specs.Cuts.{above, IsCut, taken}
+use Rattle.largest_remainder.specs.Cuts.{above, same}
 use Rattle.rules.specs.Limits.{users_most, position_most, market_most}
 
 -- what the code asks of the sizes and the total: the sizes are those of positions, so that their sum is at most that of a market
@@ -17,9 +17,9 @@ pub record Apportioned (sizes : List ℕ) (total : ℕ) (sizes' : List ℕ) (out
   pub shares : out ≡ map pos (settled sizes total)
   pub cleared : sizes' ≡ replicate (length sizes) 0
 
--- one more at each place that a cut takes
-unfoldable pub raised_by : List ℕ → ℕ → ℕ → List ℤ → List ℤ
-raised_by rs at ties old = tabulate (λ place. get_or old place (pos 0) +ℤ pos (bit (taken rs at ties place))) (length old)
+-- the first `ties` of the remainders that are `at`, larger by one
+unfoldable pub ties_broken : List ℕ → ℕ → ℕ → List ℕ
+ties_broken rs at ties = tabulate (λ place. get_or rs place 0 + bit (eqb at (get_or rs place 0) && ltb (same (take place rs) at) ties)) (length rs)
 
 -- numbers that stay within the bound of the sums
 pub record Bounded (rs : List ℕ) : Type 0 where
@@ -32,13 +32,11 @@ pub record CutAsks (rs : List ℕ) (n low top : ℕ) : Type 0 where
   pub none : above rs top ≡ 0
   pub small : top ≤ market_most
 
--- what handing out n units by a cut asks
-pub record HandAsks (rs : List ℕ) (at ties n : ℕ) (old : List ℤ) : Type 0 where
+-- what handing out n units asks: that so many remainders are above `at`
+pub record HandAsks (rs : List ℕ) (at n : ℕ) (old : List ℤ) : Type 0 where
   pub long : length rs ≡ length old
   pub small : (place : ℕ) → nat_abs (get_or old place (pos 0)) ≤ market_most
-  pub cut : IsCut rs n at ties
-  pub top : at ≤ market_most
-  pub bounded : Bounded rs
+  pub units : above rs at ≡ n
 
 -- what the pass over the sizes leaves: the remainders, the whole units and their sum, and a number below and one above all remainders but 0
 pub record Shared (sizes : List ℕ) (total : ℕ) (rs : List ℕ) (out : List ℤ) (given low top : ℕ) : Type 0 where

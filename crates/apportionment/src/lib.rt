@@ -4,9 +4,10 @@
 
 ghost use Rattle.std.specs.Prelude.{◌≡◌, ◌&&◌, ◌||◌, ◌-◌, ◌*◌, ◌/◌, ◌%◌, ◌<◌, ◌≤◌, min, max, ltb, eqb, pos, nat_abs, ◌+ℤ◌, length};
 ghost use Rattle.integers.specs.Lists.{bit, sum};
-ghost use Rattle.largest_remainder.specs.Cuts.{above, IsCut};
+ghost use Rattle.largest_remainder.specs.Cuts.{above, same, IsCut};
 ghost use Rattle.rules.specs.Limits.{position_most, market_most};
-ghost use Rattle.apportionment.specs.Steps.{Input, Apportioned, raised_by, Bounded, CutAsks, HandAsks, Shared};
+ghost use Rattle.apportionment.specs.Pass.{raised_by, visited};
+ghost use Rattle.apportionment.specs.Steps.{Input, Apportioned, ties_broken, Bounded, CutAsks, HandAsks, Shared};
 
 const TOP_BIT: u64 = 0x8000_0000_0000_0000;
 
@@ -68,7 +69,7 @@ fn share_all(sizes: &mut [u64], total: u64, sum_of_sizes: u64, out: &mut [i64]) 
     let mut given: u64 = 0;
     let mut low: u64 = sum_of_sizes;
     let mut top: u64 = 0;
-    // `out`, here and in both passes of `hand_out`, by index: of a list that a `zip` writes through `iter_mut` a proof knows nothing once the loop is over (tried).
+    // `out` by index: of a list that a `zip` writes through `iter_mut` a proof knows nothing once the loop is over (tried).
     for (i, size) in sizes.iter_mut().enumerate() {
         let share = share_of(total, *size, sum_of_sizes);
         out[i] = share.whole as i64;
@@ -140,73 +141,40 @@ fn find_cut(remainders: &[u64], spare: u64, low: u64, top: u64) -> Cut
     }
 }
 
+// The last of finding the order: the first `ties` of the remainders that are `at` become larger by one. Then those that get a unit are the ones above `at`.
+fn break_ties(remainders: &mut [u64], cut: Cut)
+    requires { (cut.ties ≤ same remainders.old cut.at) × (cut.at ≤ market_most) }
+    ensures { remainders.new ≡ ties_broken remainders.old cut.at cut.ties }
+{
+    let mut left = cut.ties;
+    let mut place: usize = 0;
+    // A `while`, here and in `hand_out`: it ends with the last one looked for, and until then there is a next place.
+    while left > 0 {
+        let tie = u64::from(remainders[place] == cut.at);
+        remainders[place] += tie;
+        left -= tie;
+        place += 1;
+    }
+}
+
 // ---- the spare units
 
-// 1 for a remainder that the cut takes, and otherwise 0.
-fn unit_for(remainder: u64, cut: Cut) -> u64
-    ensures { result ≡ bit (ltb cut.at remainder || eqb cut.at remainder && ltb 0 cut.ties) }
+// One spare unit to each remainder above `at`, in place order, ending with the last unit. It answers how many users it went to (document 02, Ask 4; `EndsWithTheLast`); the rule does not need
+// the number.
+fn hand_out(remainders: &[u64], at: u64, spare: u64, out: &mut [i64]) -> usize
+    requires { HandAsks remainders.now at spare out.old }
+    ensures raised { out.new ≡ raised_by remainders.now at out.old }
+    ensures number { result ≡ visited out.old out.new }
 {
-    u64::from(remainder > cut.at || remainder == cut.at && cut.ties > 0)
-}
-
-// The cut for the remainders that follow: one tie less after a remainder that is `at`.
-fn after(remainder: u64, cut: Cut) -> Cut
-    ensures { (result.at ≡ cut.at) × (result.ties ≡ cut.ties - bit (eqb cut.at remainder)) }
-{
-    Cut {
-        ties: cut.ties.saturating_sub(u64::from(remainder == cut.at)),
-        ..cut
-    }
-}
-
-// One function for both passes: its contract bounds the sum once.
-fn plus(x: i64, unit: u64) -> i64
-    requires { (nat_abs x ≤ market_most) × (unit ≤ 1) }
-    ensures { result ≡ x +ℤ pos unit }
-{
-    x + unit as i64
-}
-
-// In place order, ending with the last spare unit. (Not inlined, so that what is left stays in registers: among all that a side's settlement holds it does not,
-// and an hour with ties takes 5 % more time.)
-#[inline(never)]
-fn hand_out_ties(remainders: &[u64], cut: Cut, spare: u64, out: &mut [i64])
-    requires { HandAsks remainders.now cut.at cut.ties spare out.old }
-    ensures { out.new ≡ raised_by remainders.now cut.at cut.ties out.old }
-{
-    let mut left = cut;
     let mut units = spare;
-    for (i, remainder) in remainders.iter().enumerate() {
-        if units == 0 {
-            return;
-        }
-        let unit = unit_for(*remainder, left);
-        left = after(*remainder, left);
-        out[i] = plus(out[i], unit);
+    let mut visited: usize = 0;
+    while units > 0 {
+        let unit = u64::from(remainders[visited] > at);
+        out[visited] += unit as i64;
         units -= unit;
+        visited += 1;
     }
-}
-
-// Without ties no branch is needed.
-fn hand_out_above(remainders: &[u64], at: u64, spare: u64, out: &mut [i64])
-    requires { HandAsks remainders.now at 0 spare out.old }
-    ensures { out.new ≡ raised_by remainders.now at 0 out.old }
-{
-    for (i, remainder) in remainders.iter().enumerate() {
-        out[i] = plus(out[i], bit_above(*remainder, at));
-    }
-}
-
-// One spare unit to each place that the cut takes.
-fn hand_out(remainders: &[u64], cut: Cut, spare: u64, out: &mut [i64])
-    requires { HandAsks remainders.now cut.at cut.ties spare out.old }
-    ensures { out.new ≡ raised_by remainders.now cut.at cut.ties out.old }
-{
-    if cut.ties == 0 {
-        hand_out_above(remainders, cut.at, spare, out);
-    } else {
-        hand_out_ties(remainders, cut, spare, out);
-    }
+    visited
 }
 
 // ---- the rule
@@ -221,6 +189,7 @@ pub fn apportion(sizes: &mut [u64], total: u64, out: &mut [i64])
     let shares = share_all(sizes, total, sum_of_sizes, out);
     let spare = total - shares.given;
     let cut = find_cut(sizes, spare, shares.low, shares.top);
-    hand_out(sizes, cut, spare, out);
+    break_ties(sizes, cut);
+    hand_out(sizes, cut.at, spare, out);
     sizes.fill(0);
 }

@@ -13,6 +13,7 @@
 #![tactic(auto)]
 
 ghost use Rattle.largest_remainder.specs.Guarantees.{AddsUp, Accurate, NoMoreThanSize};
+ghost use Rattle.apportionment.specs.Guarantees.{EndsWithTheLast};
 ghost use Rattle.rules.specs.Guarantees.{BeginsAtZero, LengthKept, AcceptedIfFit, Conservation, ClosedIsZero, ClosedIsMarked, Accuracy, OutcomeByThresholds, MarksAreCausers};
 ghost use Rattle.file_guarantees.specs.Guarantees.{ReadIfObeyed, FirstFaultDecides, AcceptedObeys, CauseGiven, SmallNumbers, TwoForms, PointsInAmounts};
 ghost use Rattle.file_guarantees.specs.Examples.{ExamplesComputed, CaseA};
@@ -172,6 +173,13 @@ pub fn settled_sizes_add_to_the_total()
 #[tactic(auto, using(largest_remainder::proofs::Guarantees::accurate))]
 pub fn a_settled_size_is_near_the_exact_share()
     ensures { Accurate }
+{}
+
+// Document 02, of the pass that hands out the spare kWh (`apportionment::hand_out`): "inside the library it answers how many users it went to, proved to be none if nothing is spare, and else to
+// end with one that got a kWh". Of whatever the pass may be given, and of what it then leaves and answers by its contract.
+#[tactic(auto, using(apportionment::proofs::Guarantees::ends_with_the_last))]
+pub fn handing_out_ends_with_the_last_unit()
+    ensures { EndsWithTheLast }
 {}
 
 // Rule 5, of the position after: "It may reach zero and never crosses it."

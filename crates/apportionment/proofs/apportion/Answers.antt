@@ -26,13 +26,16 @@ overflow_sub-spare c = given-le c.requires.input c.share_all-shares.ensures
 pub find_cut-cut-requires : goal.find_cut-cut-requires
 find_cut-cut-requires c = cut_asked c.requires.input c.share_all-shares.ensures
 
+pub break_ties-requires : goal.break_ties-requires
+break_ties-requires c = (c.find_cut-cut.ensures.0.fits, c.find_cut-cut.ensures.1)
+
 pub hand_out-requires : goal.hand_out-requires
-hand_out-requires c = hand_asked c.requires.input c.share_all-shares.ensures _ _ c.find_cut-cut.ensures.0 c.find_cut-cut.ensures.1
+hand_out-requires c = rw c.break_ties.ensures (hand_asked c.requires.input c.share_all-shares.ensures _ _ c.find_cut-cut.ensures.0)
 
 pub returns : goal.returns
 returns c =
     let cleared : c.fill.new.self ≡ replicate (length c.share_all-shares.new.sizes) 0 = search rules in
     record {
-      shares = c.hand_out.ensures ∙ settled_by c.requires.input c.share_all-shares.ensures _ _ c.find_cut-cut.ensures.0;
+      shares = rw c.break_ties.ensures at c.hand_out.ensures.raised ∙ settled_by c.requires.input c.share_all-shares.ensures _ _ c.find_cut-cut.ensures.0;
       cleared = cleared ∙ ap (λ (n : ℕ). replicate n 0) (rests_length c.requires.input c.share_all-shares.ensures);
     }

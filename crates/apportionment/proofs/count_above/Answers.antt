@@ -2,8 +2,7 @@
 use lib.Dec.{ltb}
 use lib.ListN.{get_or}
 use Rattle.integers.specs.Lists.{count}
-use Rattle.integers.proofs.Counts.{count-step}
-use Rattle.apportionment.proofs.Handing.{bit-ltb-le}
+use Rattle.integers.proofs.Counts.{bit_le, count-step}
 use borrow.Author.Rules.{rules}
 use native.Mathlib.Omega.{arith}
 use Rattle.apportionment.proofs.count_above.Goals as goal
@@ -20,5 +19,5 @@ loop-remainder-preserved c =
       arith,
       count-step (λ r. ltb a.at r) a.remainders.now i 0 (omega arith),
       c.bit_above-n.ensures,
-      bit-ltb-le a.at (get_or a.remainders.now i 0),
+      bit_le (ltb a.at (get_or a.remainders.now i 0)),
     )
