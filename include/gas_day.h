@@ -1,4 +1,4 @@
-/* The Gas Day for C: opening, default thresholds, an hour's settlement, a zone's closing, and the reader and the writer of an hour's file.
+/* The Gas Day for C: opening, default thresholds, an hour's settlement and its preview, a zone's closing, and the reader and the writer of an hour's file.
  *
  * Link with libgas_day.a, or with libgas_day.so, which bindings/build makes and puts where it says; `pkg-config gas_day` names the flags.
  *
@@ -26,8 +26,8 @@ extern "C" {
 
 /* ---- the version of this header. A library of another version has other structs or other calls: compare before the first call. A call that is added, with its
  * causes and limits, changes nothing for older programs and leaves the version as it is. A library of this version may be older and lack it: a program that makes the
- * call is then not linked, or is ended by the loader, which names the call. Added to version 2 so far: none. Since version 2 gas_day_open is told the day's length,
- * and the record holds it */
+ * call is then not linked, or is ended by the loader, which names the call. Added to version 2 so far: gas_day_preview_hour. Since version 2 gas_day_open is told the
+ * day's length, and the record holds it */
 
 #define GAS_DAY_VERSION UINT64_C(2)
 
@@ -146,6 +146,15 @@ gas_day_hour gas_day_settle_hour(gas_day_day day, int64_t *table, size_t table_p
                                  const int64_t *exit, size_t exit_places, const int64_t *title, size_t title_places, const int64_t *pooling,
                                  size_t pooling_places, int64_t *quantity, size_t quantity_places, int64_t *money, size_t money_places, uint64_t *scratch,
                                  size_t scratch_places);
+
+/* ---- a preview of an hour, before it is booked: causes 2 to 11. Fills quantity and money and sets the scratch to zero, as gas_day_settle_hour would. Puts the users'
+ * positions after the hour into after, which has a place for each user, and only reads the table. Answers what gas_day_settle_hour would, but for the record, which is the
+ * one given */
+
+gas_day_hour gas_day_preview_hour(gas_day_day day, const int64_t *table, size_t table_places, gas_day_hour_terms terms, const int64_t *entry,
+                                  size_t entry_places, const int64_t *exit, size_t exit_places, const int64_t *title, size_t title_places,
+                                  const int64_t *pooling, size_t pooling_places, int64_t *quantity, size_t quantity_places, int64_t *money,
+                                  size_t money_places, int64_t *after, size_t after_places, uint64_t *scratch, size_t scratch_places);
 
 /* ---- a closing, after all hours of the day: causes 2 to 8. Fills quantity and money, sets the zone's places in the table to zero */
 

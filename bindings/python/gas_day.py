@@ -1,12 +1,18 @@
-"""The hourly balancing settlement of a gas market, recomputed: opening a Gas Day, default thresholds, settling an hour, closing a zone, and reading and writing an hour's
-file.
+"""The hourly balancing settlement of a gas market, recomputed: opening a Gas Day, default thresholds, settling an hour and previewing one, closing a zone, and reading and
+writing an hour's file.
 
-The calls are those of a library that is proved to give exactly the answer that the requirements define, for every input. An hour of three users, from a new day:
+The calls are those of a library that is proved to give exactly the answer that the requirements define, for every input. An hour of three users, from a new day; first its
+preview, which shows the hour before it is booked and leaves the day as it was:
 
     >>> from gas_day import GasDay, Zone, default_thresholds
     >>> day = GasDay(users=3, length=24)
     >>> amounts = dict(entry=[30_000_000, 15_000_000, 2_000_000], exit=[-10_000_000, -5_000_000, -5_000_000], title=[0, 0, 0], pooling=[0, 0, 0])
     >>> terms = dict(zone=Zone.H, thresholds=default_thresholds(month=1, zone=Zone.H), excess_price=20_000, shortfall_price=25_000)
+    >>> seen = day.preview_hour(hour=1, **terms, **amounts)
+    >>> seen.after
+    [16666667, 8333333, -3000000]
+    >>> day.positions(Zone.H)
+    [0, 0, 0]
     >>> done = day.settle_hour(hour=1, **terms, **amounts)
     >>> done.outcome
     Outcome(side=<Side.EXCESS: 1>, total=5000000, causers=[0, 1])
@@ -16,7 +22,7 @@ The calls are those of a library that is proved to give exactly the answer that 
     [16666667, 8333333, -3000000]
 
 A `GasDay` carries its record and its table itself, and `day.state` is both, to be stored. The functions `settle_hour` and `close_zone` are given record and table and
-answer new ones.
+answer new ones; the function `preview_hour` is given them too.
 
 A call that is turned away raises `Refusal`, with the first cause that applies: its number, its words and the call's name. Then nothing has changed.
 
@@ -58,6 +64,7 @@ __all__ = [
     "open_day",
     "default_thresholds",
     "settle_hour",
+    "preview_hour",
     "close_zone",
     "read_hour_file",
     "write_hour_file",
@@ -67,6 +74,7 @@ __all__ = [
     "GasDay",
     "HourDone",
     "HourFile",
+    "HourPreview",
     "Outcome",
     "Refusal",
     "Side",
@@ -273,6 +281,16 @@ class HourDone:
 
 
 @dataclass(frozen=True)
+class HourPreview:
+    """An hour before it is booked: its outcome, and each user's quantity (positive where it sells), money (positive where it is paid) and position after it."""
+
+    outcome: Outcome
+    quantity: List[int]
+    money: List[int]
+    after: List[int]
+
+
+@dataclass(frozen=True)
 class ClosingDone:
     """An accepted closing: record and table after it, what the users sold and bought (in kWh, both as sizes), and each user's quantity and money."""
 
@@ -367,6 +385,7 @@ _CALLS = {
     "gas_day_open": ([c_int64, c_int64, *_NUMBERS], _Opened),
     "gas_day_default_thresholds": ([c_int64, c_int64], _Thresholds),
     "gas_day_settle_hour": ([_Day, *_NUMBERS, _HourTerms, *(6 * _NUMBERS), *_SCRATCH], _Hour),
+    "gas_day_preview_hour": ([_Day, *_NUMBERS, _HourTerms, *(7 * _NUMBERS), *_SCRATCH], _Hour),
     "gas_day_close_zone": ([_Day, *_NUMBERS, _ClosingTerms, *(2 * _NUMBERS)], _Closing),
     "gas_day_read_hour_file": ([*_BYTES, *(4 * _NUMBERS)], _File),
     "gas_day_write_hour_file": ([c_int64, c_int64, c_int64, *(4 * _NUMBERS), *_BYTES], _Written),
@@ -556,6 +575,39 @@ def _outcome(hour: _Hour) -> Outcome:
     return Outcome(Side(hour.side), hour.total, [place for place in range(ZONE_PLACES) if marks >> place & 1])
 
 
+def preview_hour(
+    day: Day,
+    table: Numbers,
+    zone: int,
+    hour: int,
+    thresholds: Thresholds,
+    *,
+    excess_price: int,
+    shortfall_price: int,
+    entry: Numbers,
+    exit: Numbers,
+    title: Numbers,
+    pooling: Numbers,
+) -> HourPreview:
+    """Shows an hour before it is booked: who would cause, and what `settle_hour` would give each user as quantity, money and position after it. Causes 2 to 11. Nothing
+    given is changed.
+
+    >>> terms = dict(zone=Zone.H, hour=1, thresholds=Thresholds(4, 0), excess_price=20_000, shortfall_price=25_000)
+    >>> preview_hour(Day(2, length=24), 256 * [0], **terms, entry=[9, 0], exit=[0, -2], title=[0, 0], pooling=[0, 0])
+    HourPreview(outcome=Outcome(side=<Side.EXCESS: 1>, total=3, causers=[0]), quantity=[3, 0], money=[60000, 0], after=[6, -2])
+    """
+    terms, amounts = _hour_terms(zone, hour, thresholds, excess_price, shortfall_price), _amounts(entry, exit, title, pooling)
+    return _preview(_record(day), _area(table, "table"), terms, amounts)
+
+
+def _preview(record: _Day, table: Any, terms: _HourTerms, amounts: List[Any]) -> HourPreview:
+    users = len(amounts[0])  # as of an hour
+    quantity, money, after, scratch = _zeros(users), _zeros(users), _zeros(users), (c_uint64 * users)()
+    lent = _lent(*amounts, quantity, money, after, scratch)
+    seen = _accepted("preview_hour", _library.gas_day_preview_hour(record, *_lent(table), terms, *lent))
+    return HourPreview(_outcome(seen), list(quantity), list(money), list(after))
+
+
 def close_zone(day: Day, table: Numbers, zone: int, *, excess_price: int, shortfall_price: int) -> ClosingDone:
     """Closes a zone after all hours of its day: each user's quantity is its whole position. Causes 2 to 8. Nothing given is changed.
 
@@ -613,7 +665,8 @@ def write_hour_file(hour: int, zone: int, *, entry: Numbers, exit: Numbers, titl
 class GasDay:
     """A Gas Day from its opening: its calls go on from the record and the table that the last accepted one left. A refused call leaves the object as it was.
 
-    Calls from several threads go one after the other. An object can be copied and pickled.
+    Calls from several threads go one after the other; a preview, which changes nothing, waits for none and shows its hour on the day as it stands. An object can be copied
+    and pickled.
     """
 
     def __init__(self, users: int, length: int) -> None:
@@ -673,6 +726,24 @@ class GasDay:
             done = _settle(_record(day), _area(table, "table"), terms, amounts)
             self._keep(done.day, done.table)
         return done
+
+    def preview_hour(
+        self,
+        zone: int,
+        hour: int,
+        thresholds: Thresholds,
+        *,
+        excess_price: int,
+        shortfall_price: int,
+        entry: Numbers,
+        exit: Numbers,
+        title: Numbers,
+        pooling: Numbers,
+    ) -> HourPreview:
+        """Shows an hour of this day before it is booked, as the function `preview_hour` does. The day stays as it was."""
+        terms, amounts = _hour_terms(zone, hour, thresholds, excess_price, shortfall_price), _amounts(entry, exit, title, pooling)
+        day, table = self._state  # of one call, and nothing is kept: so it waits for no turn
+        return _preview(_record(day), _area(table, "table"), terms, amounts)
 
     def settle_file(self, file: HourFile, thresholds: Thresholds, *, excess_price: int, shortfall_price: int) -> HourDone:
         """Settles the hour that a file has."""

@@ -1,5 +1,5 @@
-//! Hours of 128 users through the library, as a client calls it from Rust, and through the ordinary settlement, in turn, in one run: nanoseconds an hour, and the
-//! ratio, by kind of input. The table is restored before each hour, for both.
+//! Hours of 128 users, and their previews, through the library, as a client calls it from Rust, and through the ordinary settlement, in turn, in one run: nanoseconds an hour,
+//! and the ratio, by kind of input. The table is restored before each hour, for both; before a preview too, so that its times are comparable with those of its hour.
 
 use gas_day::{Amounts, Day, HourTerms, Outputs, ZoneDay};
 use ordinary::made_up::{self, Kind};
@@ -28,12 +28,12 @@ struct Lent {
     table: Vec<i64>,
     quantity: Vec<i64>,
     money: Vec<i64>,
+    after: Vec<i64>,
     scratch: Vec<u64>,
 }
 
-fn library_hour(input: &Input, lent: &mut Lent) -> u64 {
-    let terms = input.hour.terms;
-    let mut day = Day {
+fn library_day(input: &Input) -> Day {
+    Day {
         users: input.users,
         length: LENGTH,
         h: ZoneDay {
@@ -44,38 +44,63 @@ fn library_hour(input: &Input, lent: &mut Lent) -> u64 {
             hours: input.hours_l,
             closed: i64::from(input.closed_l),
         },
-    };
-    let terms = HourTerms {
+    }
+}
+
+fn library_terms(input: &Input) -> HourTerms {
+    let terms = input.hour.terms;
+    HourTerms {
         zone: input.zone,
         hour: input.number,
         upper: terms.upper,
         lower: terms.lower,
         excess_price: terms.excess_price,
         shortfall_price: terms.shortfall_price,
-    };
-    let amounts = Amounts {
+    }
+}
+
+fn library_amounts(input: &Input) -> Amounts<'_> {
+    Amounts {
         entry: &input.hour.entry,
         exit: &input.hour.exit,
         title: &input.hour.title,
         pooling: &input.hour.pooling,
-    };
+    }
+}
+
+fn library_hour(input: &Input, lent: &mut Lent) -> u64 {
+    let mut day = library_day(input);
     let outputs = Outputs {
         quantity: &mut lent.quantity,
         money: &mut lent.money,
     };
-    let answer = gas_day::settle_hour(&mut day, &mut lent.table, terms, amounts, outputs, &mut lent.scratch);
+    let answer = gas_day::settle_hour(&mut day, &mut lent.table, library_terms(input), library_amounts(input), outputs, &mut lent.scratch);
     answer.map_or_else(|cause| cause.number(), |_| 0)
 }
 
-fn ordinary_hour(input: &Input, lent: &mut Lent) -> u64 {
-    let day = ordinary::Day {
+fn library_preview(input: &Input, lent: &mut Lent) -> u64 {
+    let day = library_day(input);
+    let outputs = Outputs {
+        quantity: &mut lent.quantity,
+        money: &mut lent.money,
+    };
+    let (terms, amounts) = (library_terms(input), library_amounts(input));
+    let answer = gas_day::preview_hour(&day, &lent.table, terms, amounts, outputs, &mut lent.after, &mut lent.scratch);
+    answer.map_or_else(|cause| cause.number(), |_| 0)
+}
+
+fn ordinary_day(input: &Input) -> ordinary::Day {
+    ordinary::Day {
         users: input.users,
         length: LENGTH,
         hours: [1, input.hours_l],
         closed: [0, i64::from(input.closed_l)],
-    };
+    }
+}
+
+fn ordinary_hour(input: &Input, lent: &mut Lent) -> u64 {
     let answer = ordinary::settle_hour(
-        day,
+        ordinary_day(input),
         &mut lent.table,
         input.zone,
         input.number,
@@ -91,8 +116,30 @@ fn ordinary_hour(input: &Input, lent: &mut Lent) -> u64 {
     answer.err().unwrap_or(0)
 }
 
+fn ordinary_preview(input: &Input, lent: &mut Lent) -> u64 {
+    let answer = ordinary::preview_hour(
+        ordinary_day(input),
+        &lent.table,
+        input.zone,
+        input.number,
+        &input.hour.entry,
+        &input.hour.exit,
+        &input.hour.title,
+        &input.hour.pooling,
+        input.hour.terms,
+        &mut lent.quantity,
+        &mut lent.money,
+        &mut lent.after,
+        &mut lent.scratch,
+    );
+    answer.err().unwrap_or(0)
+}
+
+/// An hour or a preview; it answers its cause.
+type Call = fn(&Input, &mut Lent) -> u64;
+
 /// Nanoseconds an hour of one pass over the inputs, `PASSES` times.
-fn timed(inputs: &[Input], lent: &mut Lent, call: fn(&Input, &mut Lent) -> u64, cause: u64) -> f64 {
+fn timed(inputs: &[Input], lent: &mut Lent, call: Call, cause: u64) -> f64 {
     let start = Instant::now();
     for _ in 0..PASSES {
         for input in inputs {
@@ -104,18 +151,23 @@ fn timed(inputs: &[Input], lent: &mut Lent, call: fn(&Input, &mut Lent) -> u64, 
 }
 
 /// The least of many rounds for each, taken in turn.
-fn compare(name: &str, inputs: &[Input], cause: u64) {
+fn least(inputs: &[Input], library: Call, ordinary: Call, cause: u64) -> (f64, f64) {
     let mut lent = Lent {
         table: vec![0; 256],
         quantity: vec![0; USERS],
         money: vec![0; USERS],
+        after: vec![0; USERS],
         scratch: vec![0; USERS],
     };
     let (mut ours, mut theirs) = (f64::MAX, f64::MAX);
     for _ in 0..ROUNDS {
-        ours = ours.min(timed(inputs, &mut lent, library_hour, cause));
-        theirs = theirs.min(timed(inputs, &mut lent, ordinary_hour, cause));
+        ours = ours.min(timed(inputs, &mut lent, library, cause));
+        theirs = theirs.min(timed(inputs, &mut lent, ordinary, cause));
     }
+    (ours, theirs)
+}
+
+fn print_row(name: &str, (ours, theirs): (f64, f64)) {
     println!("| {name} | {ours:.0} | {theirs:.0} | {:.2} |", ours / theirs);
 }
 
@@ -181,12 +233,15 @@ fn main() {
     let mut random = Random::new(1);
     println!("| kind of hour, 128 users | library, ns | ordinary Rust, ns | ratio |");
     println!("|---|---|---|---|");
-    for kind in Kind::ALL {
-        let inputs = inputs(&mut random, kind, |_| ());
-        compare(&format!("{kind:?}"), &inputs, 0);
+    let of_kinds = Kind::ALL.map(|kind| (kind, inputs(&mut random, kind, |_| ())));
+    for (kind, inputs) in &of_kinds {
+        print_row(&format!("{kind:?}"), least(inputs, library_hour, ordinary_hour, 0));
     }
     for (name, change, cause) in SPOILT {
         let inputs = inputs(&mut random, Kind::Excess, change);
-        compare(&format!("refused by {name}"), &inputs, cause);
+        print_row(&format!("refused by {name}"), least(&inputs, library_hour, ordinary_hour, cause));
+    }
+    for (kind, inputs) in &of_kinds {
+        print_row(&format!("preview of {kind:?}"), least(inputs, library_preview, ordinary_preview, 0));
     }
 }

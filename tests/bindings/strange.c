@@ -22,6 +22,16 @@ gas_day_hour gas_day_settle_hour(gas_day_day day, int64_t *table, size_t table_p
     return (gas_day_hour){.day = day, .side = 3};
 }
 
+gas_day_hour gas_day_preview_hour(gas_day_day day, const int64_t *table, size_t table_places, gas_day_hour_terms terms, const int64_t *entry,
+                                  size_t entry_places, const int64_t *exit, size_t exit_places, const int64_t *title, size_t title_places,
+                                  const int64_t *pooling, size_t pooling_places, int64_t *quantity, size_t quantity_places, int64_t *money,
+                                  size_t money_places, int64_t *after, size_t after_places, uint64_t *scratch, size_t scratch_places) {
+    (void)table, (void)table_places, (void)terms, (void)entry, (void)entry_places, (void)exit, (void)exit_places, (void)title, (void)title_places;
+    (void)pooling, (void)pooling_places, (void)quantity, (void)quantity_places, (void)money, (void)money_places, (void)after, (void)after_places;
+    (void)scratch, (void)scratch_places;
+    return (gas_day_hour){.day = day, .side = UINT64_MAX};
+}
+
 gas_day_closing gas_day_close_zone(gas_day_day day, int64_t *table, size_t table_places, gas_day_closing_terms terms, int64_t *quantity,
                                    size_t quantity_places, int64_t *money, size_t money_places) {
     (void)table, (void)table_places, (void)terms, (void)quantity, (void)quantity_places, (void)money, (void)money_places;

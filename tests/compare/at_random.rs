@@ -1,4 +1,4 @@
-//! Calls made up at random: whole days with their conservation sums, single odd calls, openings, thresholds, files and writings.
+//! Calls made up at random: whole days with their conservation sums, single odd calls and previews, openings, thresholds, files and writings.
 
 use crate::both::Run;
 use crate::counts::LENGTHS;
@@ -49,7 +49,8 @@ impl Sums {
     }
 }
 
-/// Whole days of each length, until both zones are closed: hours of every kind and closings, accepted and refused, with the conservation sums.
+/// Whole days of each length, until both zones are closed: hours of every kind and closings, accepted and refused, with the conservation sums. On every third day each hour is
+/// previewed first, which the sums do not count.
 pub fn days(run: &mut Run, seed: u64, rounds: usize) {
     let mut random = Random::new(seed);
     for round in 0..rounds {
@@ -59,22 +60,26 @@ pub fn days(run: &mut Run, seed: u64, rounds: usize) {
         let (day, table) = run.opening(users as i64, length, 256).expect("opened");
         let mut call = first_hour(day, table, &mut random);
         let mut sums = Sums::new();
+        let hour = if round % 3 == 0 { Run::preview_and_hour } else { Run::hour };
         while call.day.closed != [1, 1] {
-            call_of_day(run, &mut random, &mut call, &mut sums);
+            call_of_day(run, &mut random, &mut call, &mut sums, hour);
         }
-        (0..4).for_each(|_| call_of_day(run, &mut random, &mut call, &mut sums));
+        (0..4).for_each(|_| call_of_day(run, &mut random, &mut call, &mut sums, hour));
         sums.conserved(&run.at, &call.table);
         run.counts.count("days to both closings by length of the day", &length.to_string());
     }
 }
 
+/// How an hour of a day is called: with its preview before it, or without.
+type HourCall = fn(&mut Run, &mut Call) -> u64;
+
 /// An hour, or now and then a closing, of either zone.
-fn call_of_day(run: &mut Run, random: &mut Random, call: &mut Call, sums: &mut Sums) {
+fn call_of_day(run: &mut Run, random: &mut Random, call: &mut Call, sums: &mut Sums, hour: HourCall) {
     call.zone = random.between(0, 1);
     if random.one_in(8) {
         closing_of_day(run, random, call, sums);
     } else {
-        hour_of_day(run, random, call, sums);
+        hour_of_day(run, random, call, sums, hour);
     }
 }
 
@@ -86,7 +91,7 @@ fn closing_of_day(run: &mut Run, random: &mut Random, call: &mut Call, sums: &mu
     }
 }
 
-fn hour_of_day(run: &mut Run, random: &mut Random, call: &mut Call, sums: &mut Sums) {
+fn hour_of_day(run: &mut Run, random: &mut Random, call: &mut Call, sums: &mut Sums, hour: HourCall) {
     let kind = random.pick(Kind::ALL);
     let part = call.zone as usize * 128;
     let users = call.day.users as usize;
@@ -95,7 +100,7 @@ fn hour_of_day(run: &mut Run, random: &mut Random, call: &mut Call, sums: &mut S
         made_up::spoil(random, &mut call.amounts);
     }
     call.hour = call.day.hours[call.zone as usize] + random.pick([1, 1, 1, 1, 0, 2]);
-    if run.hour(call) == 0 {
+    if hour(run, call) == 0 {
         run.counts.count("accepted hours by kind", &format!("{kind:?}"));
         sums.add_amounts(call);
         sums.add_quantities(call);
@@ -107,22 +112,44 @@ pub fn odd_calls(run: &mut Run, seed: u64, rounds: usize) {
     let mut random = Random::new(seed);
     for round in 0..rounds {
         run.at = format!("odd calls, seed {seed}, round {round}");
-        let users = random.pick([1, 2, 3, 128]);
-        let (day, table) = made_up::day(&mut random, users);
-        let mut call = first_hour(day, table, &mut random);
-        call.zone = random.between(0, 1);
-        call.hour = day.hours[call.zone as usize] + 1;
-        let part = call.zone as usize * 128;
-        let kind = random.pick(Kind::ALL);
-        call.amounts = made_up::hour(&mut random, users, kind, &call.table[part..part + 128]);
-        for _ in 0..random.below(3) {
-            odd(&mut random, users, &mut call);
-        }
+        let (mut call, kind) = odd_call(&mut random);
         run.closing(&mut call.clone());
         if run.hour(&mut call) == 0 {
             run.counts.count("accepted hours by kind", &format!("{kind:?}"));
         }
     }
+}
+
+/// Single previews with something odd about them, as calls have it; now and then it is the list for the positions after.
+pub fn odd_previews(run: &mut Run, seed: u64, rounds: usize) {
+    let mut random = Random::new(seed);
+    for round in 0..rounds {
+        run.at = format!("odd previews, seed {seed}, round {round}");
+        let (mut call, kind) = odd_call(&mut random);
+        if random.one_in(17) {
+            let users = call.after.len();
+            call.after.resize(random.pick([0, users - 1, users + 1]), 9);
+        }
+        if run.preview(&mut call) == 0 {
+            run.counts.count("accepted previews by kind", &format!("{kind:?}"));
+        }
+    }
+}
+
+/// A call in the middle of a day that is fit as an hour, but for up to two things, and the kind of its hour.
+fn odd_call(random: &mut Random) -> (Call, Kind) {
+    let users = random.pick([1, 2, 3, 128]);
+    let (day, table) = made_up::day(random, users);
+    let mut call = first_hour(day, table, random);
+    call.zone = random.between(0, 1);
+    call.hour = day.hours[call.zone as usize] + 1;
+    let part = call.zone as usize * 128;
+    let kind = random.pick(Kind::ALL);
+    call.amounts = made_up::hour(random, users, kind, &call.table[part..part + 128]);
+    for _ in 0..random.below(3) {
+        odd(random, users, &mut call);
+    }
+    (call, kind)
 }
 
 /// Makes one thing of a call odd.

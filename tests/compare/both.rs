@@ -1,8 +1,9 @@
 //! One call by both: the same is given and lent to each; the answer, the record and everything lent are compared afterwards, and a refused call also with what was
-//! lent. A difference ends the run with where it came up and what was given. Every call is counted, by its cause and, if it is an accepted hour, by its side.
+//! lent. A difference ends the run with where it came up and what was given. Every call is counted, by its cause and, if it is an accepted hour or preview, by its side.
 
 use crate::counts::Counts;
 use gas_day::{Amounts, Cause, ClosingTerms, Day, HourTerms, FileLists, Outputs, ZoneDay};
+use ordinary::made_up::Hour;
 use ordinary::spoilt::Call;
 use ordinary::spoilt_writing::Writing;
 use ordinary::{Outcome, Side, Terms};
@@ -35,11 +36,11 @@ fn as_ordinary(day: Day) -> ordinary::Day {
     }
 }
 
-/// Of an hour: cause, side (0 within, 1 excess, 2 shortfall), total, the two words of marks, and their number.
+/// Of an hour or a preview: cause, side (0 within, 1 excess, 2 shortfall), total, the two words of marks, and their number.
 type HourAnswer = (u64, u64, i64, u64, u64, u64);
 
-fn ordinary_hour(call: &mut Call) -> HourAnswer {
-    match call.settle() {
+fn of_ordinary(answer: Result<Outcome, u64>) -> HourAnswer {
+    match answer {
         Err(cause) => (cause, 0, 0, 0, 0, 0),
         Ok(Outcome::Within) => (0, 0, 0, 0, 0, 0),
         Ok(Outcome::Settled {
@@ -54,34 +55,7 @@ fn ordinary_hour(call: &mut Call) -> HourAnswer {
     }
 }
 
-fn library_hour(call: &mut Call) -> HourAnswer {
-    let Terms {
-        upper,
-        lower,
-        excess_price,
-        shortfall_price,
-    } = call.amounts.terms;
-    let terms = HourTerms {
-        zone: call.zone,
-        hour: call.hour,
-        upper,
-        lower,
-        excess_price,
-        shortfall_price,
-    };
-    let amounts = Amounts {
-        entry: &call.amounts.entry,
-        exit: &call.amounts.exit,
-        title: &call.amounts.title,
-        pooling: &call.amounts.pooling,
-    };
-    let outputs = Outputs {
-        quantity: &mut call.quantity,
-        money: &mut call.money,
-    };
-    let mut day = as_library(call.day);
-    let answer = gas_day::settle_hour(&mut day, &mut call.table, terms, amounts, outputs, &mut call.scratch);
-    call.day = as_ordinary(day);
+fn of_library(answer: Result<gas_day::Outcome, Cause>) -> HourAnswer {
     match answer {
         Err(cause) => (cause.number(), 0, 0, 0, 0, 0),
         Ok(gas_day::Outcome::Within) => (0, 0, 0, 0, 0, 0),
@@ -94,6 +68,56 @@ fn library_hour(call: &mut Call) -> HourAnswer {
             (0, side, total, causers.first, causers.second, causers.number)
         }
     }
+}
+
+fn terms_of(call: &Call) -> HourTerms {
+    let Terms {
+        upper,
+        lower,
+        excess_price,
+        shortfall_price,
+    } = call.amounts.terms;
+    HourTerms {
+        zone: call.zone,
+        hour: call.hour,
+        upper,
+        lower,
+        excess_price,
+        shortfall_price,
+    }
+}
+
+fn amounts_of(hour: &Hour) -> Amounts<'_> {
+    Amounts {
+        entry: &hour.entry,
+        exit: &hour.exit,
+        title: &hour.title,
+        pooling: &hour.pooling,
+    }
+}
+
+fn library_hour(call: &mut Call) -> HourAnswer {
+    let (terms, amounts) = (terms_of(call), amounts_of(&call.amounts));
+    let outputs = Outputs {
+        quantity: &mut call.quantity,
+        money: &mut call.money,
+    };
+    let mut day = as_library(call.day);
+    let answer = gas_day::settle_hour(&mut day, &mut call.table, terms, amounts, outputs, &mut call.scratch);
+    call.day = as_ordinary(day);
+    of_library(answer)
+}
+
+fn library_preview(call: &mut Call) -> HourAnswer {
+    let (terms, amounts) = (terms_of(call), amounts_of(&call.amounts));
+    let outputs = Outputs {
+        quantity: &mut call.quantity,
+        money: &mut call.money,
+    };
+    let day = as_library(call.day);
+    let answer = gas_day::preview_hour(&day, &call.table, terms, amounts, outputs, &mut call.after, &mut call.scratch);
+    call.day = as_ordinary(day);
+    of_library(answer)
 }
 
 /// Of a closing: cause, sold and bought.
@@ -164,6 +188,23 @@ fn unit_of(bytes: &[u8], lines: i64) -> &'static str {
     }
 }
 
+/// The sides of an accepted hour or preview, in the order of their numbers.
+pub const SIDES: [&str; 3] = ["within", "excess", "shortfall"];
+
+/// The rows of what is before the last hour, the last hour, and after it.
+pub const HOURS_OF_A_DAY: [&str; 3] =
+    ["hours before the last by length of the day", "last hours by length of the day", "hours after the last, refused, by length of the day"];
+pub const PREVIEWS_OF_A_DAY: [&str; 3] =
+    ["previews before the last hour by length of the day", "previews of the last hour by length of the day", "previews after the last hour, refused, by length of the day"];
+
+/// The accepted preview is booked: the table holds the positions after, and the record has one hour more.
+fn book(shown: &mut Call) {
+    let zone = shown.zone as usize;
+    let places = zone * 128..zone * 128 + shown.after.len();
+    shown.table[places].copy_from_slice(&shown.after);
+    shown.day.hours[zone] += 1;
+}
+
 /// The hours done in the zone that is called, which is one.
 fn done(call: &Call) -> i64 {
     call.day.hours[call.zone as usize]
@@ -172,26 +213,64 @@ fn done(call: &Call) -> i64 {
 impl Run {
     /// An hour, from the same state; the call is left as the library left it. Answers the cause.
     pub fn hour(&mut self, call: &mut Call) -> u64 {
+        self.settled(call).0
+    }
+
+    /// The same for a preview.
+    pub fn preview(&mut self, call: &mut Call) -> u64 {
+        self.previewed(call).0
+    }
+
+    /// A preview, and then the hour itself with what the preview left of record and table, and with lists of its own: they have the same answer and lists, and the hour's table
+    /// holds the positions after. Answers the cause.
+    pub fn preview_and_hour(&mut self, call: &mut Call) -> u64 {
+        let mut shown = call.clone();
+        let expected = self.previewed(&mut shown);
+        (call.day, call.table) = (shown.day, shown.table.clone());
+        let found = self.settled(call);
+        if expected.0 == 0 {
+            book(&mut shown);
+        }
+        shown.after.clone_from(&call.after); // which an hour is not lent
+        if (found, &*call) != (expected, &shown) {
+            panic!("{}: an hour differs from its preview\nthe hour: {found:?} {call:?}\nas previewed: {expected:?} {shown:?}", self.at);
+        }
+        self.counts.count("previews and then their hours", if found.0 == 0 { "accepted" } else { "refused" });
+        found.0
+    }
+
+    fn previewed(&mut self, call: &mut Call) -> HourAnswer {
         let before = call.clone();
         let mut other = call.clone();
-        let expected = ordinary_hour(&mut other);
+        let expected = of_ordinary(other.preview());
+        let found = library_preview(call);
+        self.same("a preview", &before, (found, call), (expected, &other), expected.0);
+        if (call.day, &call.table) != (before.day, &before.table) {
+            panic!("{}: a preview that was accepted changed the record or the table\ngiven {before:?}", self.at);
+        }
+        self.counts.call("previews by cause", expected.0);
+        if expected.0 == 0 {
+            self.counts.count("accepted previews by side", SIDES[expected.1 as usize]);
+        }
+        self.about_the_last_hour(&PREVIEWS_OF_A_DAY, &before, expected.0);
+        expected
+    }
+
+    fn settled(&mut self, call: &mut Call) -> HourAnswer {
+        let before = call.clone();
+        let mut other = call.clone();
+        let expected = of_ordinary(other.settle());
         let found = library_hour(call);
         self.same("an hour", &before, (found, call), (expected, &other), expected.0);
         self.counts.call("hours by cause", expected.0);
         if expected.0 == 0 {
-            self.counts.count("accepted hours by side", ["within", "excess", "shortfall"][expected.1 as usize]);
+            self.counts.count("accepted hours by side", SIDES[expected.1 as usize]);
         }
-        let last = before.day.length;
-        match expected.0 {
-            0 if before.hour == last => self.of_length("last hours by length of the day", last),
-            0 => self.of_length("hours before the last by length of the day", last),
-            6 if done(&before) == last && before.hour == last + 1 => self.of_length("hours after the last, refused, by length of the day", last),
-            _ => (),
-        }
-        expected.0
+        self.about_the_last_hour(&HOURS_OF_A_DAY, &before, expected.0);
+        expected
     }
 
-    /// The same for a closing.
+    /// A closing, in the same way. Answers the cause.
     pub fn closing(&mut self, call: &mut Call) -> u64 {
         let before = call.clone();
         let mut other = call.clone();
@@ -206,6 +285,17 @@ impl Run {
             _ => (),
         }
         expected.0
+    }
+
+    /// Counts an hour or a preview by where it is in its day, if it is accepted or is just after the day's end.
+    fn about_the_last_hour(&mut self, [earlier, last, later]: &[&str; 3], given: &Call, cause: u64) {
+        let length = given.day.length;
+        match cause {
+            0 if given.hour == length => self.of_length(last, length),
+            0 => self.of_length(earlier, length),
+            6 if done(given) == length && given.hour == length + 1 => self.of_length(later, length),
+            _ => (),
+        }
     }
 
     fn of_length(&mut self, row: &str, length: i64) {

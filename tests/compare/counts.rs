@@ -1,8 +1,8 @@
 //! How many calls were made of everything that is to come up, and how many of it there have to be at least.
 
-use crate::both::UNITS;
+use crate::both::{HOURS_OF_A_DAY, PREVIEWS_OF_A_DAY, SIDES, UNITS};
 use ordinary::made_up::Kind;
-use ordinary::spoilt::{closing_ways, hour_ways, Way};
+use ordinary::spoilt::{closing_ways, hour_ways, preview_ways, Way};
 use ordinary::spoilt_file;
 use ordinary::spoilt_writing::{ROOMS, WRITING_WAYS};
 
@@ -70,47 +70,83 @@ fn pairs_row(name: &'static str, pairs: &[(u64, u64)]) -> Row {
     row(name, LEAST_OF_A_PAIR, pairs.iter().map(|&pair| pair_name(pair)))
 }
 
+/// Of what is accepted.
+fn accepted_rows() -> Vec<Row> {
+    vec![
+        row("accepted hours by kind", LEAST_OF_A_KIND, Kind::ALL.map(|kind| format!("{kind:?}"))),
+        row("accepted hours by side", LEAST_OF_A_SIDE, SIDES),
+        row("accepted previews by kind", LEAST_OF_A_KIND, Kind::ALL.map(|kind| format!("{kind:?}"))),
+        row("accepted previews by side", LEAST_OF_A_SIDE, SIDES),
+        row("previews and then their hours", LEAST_OF_A_SIDE, ["accepted", "refused"]),
+        row("accepted calls", LEAST_ACCEPTED, ["hours", "previews", "closings", "openings", "thresholds", "files", "writings"]),
+        row("accepted writings by room", LEAST_ACCEPTED, ROOMS.map(|(name, _)| name)),
+        row("files that were read and written again", LEAST_ACCEPTED, UNITS),
+        row("accepted openings by length of the day", LEAST_OF_A_KIND, LENGTHS),
+    ]
+}
+
+/// Of whole days, and of where in its day a call is.
+fn day_rows() -> Vec<Row> {
+    vec![
+        row("days to both closings by length of the day", LEAST_OF_A_DAY, LENGTHS),
+        row(HOURS_OF_A_DAY[0], LEAST_OF_A_KIND, LENGTHS),
+        row(HOURS_OF_A_DAY[1], LEAST_OF_A_KIND, LENGTHS),
+        row(HOURS_OF_A_DAY[2], LEAST_OF_A_PART, LENGTHS),
+        row(PREVIEWS_OF_A_DAY[0], LEAST_OF_A_KIND, LENGTHS),
+        row(PREVIEWS_OF_A_DAY[1], LEAST_OF_A_KIND, LENGTHS),
+        row(PREVIEWS_OF_A_DAY[2], LEAST_OF_A_PART, LENGTHS),
+        row("closings an hour early, refused, by length of the day", LEAST_OF_A_PART, LENGTHS),
+        row("closings after the last hour by length of the day", LEAST_OF_A_KIND, LENGTHS),
+    ]
+}
+
+fn cause_rows() -> Vec<Row> {
+    vec![
+        row("hours by cause", LEAST_OF_A_CAUSE, 2..=11),
+        row("previews by cause", LEAST_OF_A_CAUSE, 2..=11),
+        row("closings by cause", LEAST_OF_A_CAUSE, 2..=8),
+        row("openings by cause", LEAST_OF_A_CAUSE, [1, 21, 3]),
+        row("thresholds by cause", LEAST_OF_A_CAUSE, [4, 8]),
+        row("files by cause", LEAST_OF_A_CAUSE, 12..=17),
+        row("writings by cause", LEAST_OF_A_CAUSE, 18..=20),
+    ]
+}
+
+fn part_rows() -> Vec<Row> {
+    vec![
+        parts("hours of zone H by part of a cause", &hour_ways()),
+        parts("hours of zone L by part of a cause", &hour_ways()),
+        parts("previews of zone H by part of a cause", &preview_ways()),
+        parts("previews of zone L by part of a cause", &preview_ways()),
+        parts("closings of zone H by part of a cause", &closing_ways()),
+        parts("closings of zone L by part of a cause", &closing_ways()),
+        row("openings by part of a cause", LEAST_OF_A_PART, OPENING_PARTS),
+        row("thresholds by part of a cause", LEAST_OF_A_PART, ["4 zone below 0", "4 zone above 1", "8 month below 1", "8 month above 12"]),
+        row("files by part of a cause", LEAST_OF_A_PART, spoilt_file::WAYS.iter().map(|way| part_name(way.cause, way.part))),
+        row("writings of zone H by part of a cause", LEAST_OF_A_PART, WRITING_WAYS.iter().map(|way| part_name(way.cause, way.part))),
+        row("writings of zone L by part of a cause", LEAST_OF_A_PART, WRITING_WAYS.iter().map(|way| part_name(way.cause, way.part))),
+    ]
+}
+
+fn pair_rows() -> Vec<Row> {
+    vec![
+        pairs_row("hours by pair of causes", &pairs(2..=11)),
+        pairs_row("previews by pair of causes", &pairs(2..=11)),
+        pairs_row("closings by pair of causes", &closing_pairs()),
+        pairs_row("openings by pair of causes", &OPENING_PAIRS),
+        pairs_row("thresholds by pair of causes", &[(4, 8)]),
+        pairs_row("files by pair of causes", &FILE_PAIRS),
+        pairs_row("files by pair of causes in one line", &LINE_PAIRS),
+        pairs_row("files by pair of causes in two lines, the first line's first", &TWO_LINES),
+        pairs_row("writings by pair of causes", &pairs(18..=20)),
+    ]
+}
+
 impl Counts {
     /// The table: everything that is to come up, none of it yet.
     pub fn new() -> Counts {
-        let rows = vec![
-            row("accepted hours by kind", LEAST_OF_A_KIND, Kind::ALL.map(|kind| format!("{kind:?}"))),
-            row("accepted hours by side", LEAST_OF_A_SIDE, ["within", "excess", "shortfall"]),
-            row("accepted calls", LEAST_ACCEPTED, ["hours", "closings", "openings", "thresholds", "files", "writings"]),
-            row("accepted writings by room", LEAST_ACCEPTED, ROOMS.map(|(name, _)| name)),
-            row("files that were read and written again", LEAST_ACCEPTED, UNITS),
-            row("accepted openings by length of the day", LEAST_OF_A_KIND, LENGTHS),
-            row("days to both closings by length of the day", LEAST_OF_A_DAY, LENGTHS),
-            row("hours before the last by length of the day", LEAST_OF_A_KIND, LENGTHS),
-            row("last hours by length of the day", LEAST_OF_A_KIND, LENGTHS),
-            row("hours after the last, refused, by length of the day", LEAST_OF_A_PART, LENGTHS),
-            row("closings an hour early, refused, by length of the day", LEAST_OF_A_PART, LENGTHS),
-            row("closings after the last hour by length of the day", LEAST_OF_A_KIND, LENGTHS),
-            row("hours by cause", LEAST_OF_A_CAUSE, 2..=11),
-            row("closings by cause", LEAST_OF_A_CAUSE, 2..=8),
-            row("openings by cause", LEAST_OF_A_CAUSE, [1, 21, 3]),
-            row("thresholds by cause", LEAST_OF_A_CAUSE, [4, 8]),
-            row("files by cause", LEAST_OF_A_CAUSE, 12..=17),
-            row("writings by cause", LEAST_OF_A_CAUSE, 18..=20),
-            parts("hours of zone H by part of a cause", &hour_ways()),
-            parts("hours of zone L by part of a cause", &hour_ways()),
-            parts("closings of zone H by part of a cause", &closing_ways()),
-            parts("closings of zone L by part of a cause", &closing_ways()),
-            row("openings by part of a cause", LEAST_OF_A_PART, OPENING_PARTS),
-            row("thresholds by part of a cause", LEAST_OF_A_PART, ["4 zone below 0", "4 zone above 1", "8 month below 1", "8 month above 12"]),
-            row("files by part of a cause", LEAST_OF_A_PART, spoilt_file::WAYS.iter().map(|way| part_name(way.cause, way.part))),
-            row("writings of zone H by part of a cause", LEAST_OF_A_PART, WRITING_WAYS.iter().map(|way| part_name(way.cause, way.part))),
-            row("writings of zone L by part of a cause", LEAST_OF_A_PART, WRITING_WAYS.iter().map(|way| part_name(way.cause, way.part))),
-            pairs_row("hours by pair of causes", &pairs(2..=11)),
-            pairs_row("closings by pair of causes", &closing_pairs()),
-            pairs_row("openings by pair of causes", &OPENING_PAIRS),
-            pairs_row("thresholds by pair of causes", &[(4, 8)]),
-            pairs_row("files by pair of causes", &FILE_PAIRS),
-            pairs_row("files by pair of causes in one line", &LINE_PAIRS),
-            pairs_row("files by pair of causes in two lines, the first line's first", &TWO_LINES),
-            pairs_row("writings by pair of causes", &pairs(18..=20)),
-        ];
-        Counts { rows, calls: 0 }
+        let rows = [accepted_rows(), day_rows(), cause_rows(), part_rows(), pair_rows()];
+        Counts { rows: rows.into_iter().flatten().collect(), calls: 0 }
     }
 
     /// One more of an item.

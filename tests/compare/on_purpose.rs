@@ -2,13 +2,13 @@
 
 use crate::both::Run;
 use crate::counts::{closing_pairs, pair_name, pairs, part_name, FILE_PAIRS, LENGTHS, LINE_PAIRS, TWO_LINES};
-use ordinary::present::{closing_causes, hour_causes, writing_causes};
+use ordinary::present::{closing_causes, hour_causes, preview_causes, writing_causes};
 use ordinary::random::Random;
-use ordinary::spoilt::{closing_ways, fit_closing, fit_hour, hour_ways, Call, Way};
+use ordinary::spoilt::{closing_ways, fit_closing, fit_hour, hour_ways, preview_ways, Call, Way};
 use ordinary::spoilt_file::{fit_file, File, FileWay, WAYS};
 use ordinary::spoilt_writing::{fit_writing, Writing, WritingWay, ROOMS, WRITING_WAYS};
 
-/// What differs between hours and closings.
+/// What differs between hours, previews and closings.
 struct Calls {
     name: &'static str,
     rows: [&'static str; 2],
@@ -31,6 +31,17 @@ const HOURS: Calls = Calls {
     present: hour_causes,
 };
 
+const PREVIEWS: Calls = Calls {
+    name: "previews on purpose",
+    rows: ["previews of zone H by part of a cause", "previews of zone L by part of a cause"],
+    pairs_row: "previews by pair of causes",
+    ways: preview_ways,
+    pairs: || pairs(2..=11),
+    fit: fit_hour,
+    both: Run::preview,
+    present: preview_causes,
+};
+
 const CLOSINGS: Calls = Calls {
     name: "closings on purpose",
     rows: ["closings of zone H by part of a cause", "closings of zone L by part of a cause"],
@@ -42,10 +53,10 @@ const CLOSINGS: Calls = Calls {
     present: closing_causes,
 };
 
-/// Hours and closings, each spoilt by one way and then by two.
-pub fn hours_and_closings(run: &mut Run, seed: u64, rounds: usize) {
+/// Hours, closings and previews, each spoilt by one way and then by two.
+pub fn calls_of_a_day(run: &mut Run, seed: u64, rounds: usize) {
     let mut random = Random::new(seed);
-    for calls in [HOURS, CLOSINGS] {
+    for calls in [HOURS, CLOSINGS, PREVIEWS] {
         run.at = format!("{}, seed {seed}", calls.name);
         for zone in [0, 1] {
             for way in (calls.ways)() {

@@ -1,5 +1,6 @@
-"""Whether the header's test tells a wrong header: in copies of include/gas_day.h any two members of a struct are exchanged, any two neighbouring enumerators have each
-other's number, and every other constant is one more or one less; the test has to fail with each. Usage, from the repository's root: exchanges.py LIBRARY FOLDER."""
+"""Whether the header's test tells a wrong header: in copies of include/gas_day.h any two members of a struct are exchanged, and any two lists of a call; any two
+neighbouring enumerators have each other's number, and every other constant is one more or one less; the test has to fail with each. Usage, from the repository's root:
+exchanges.py LIBRARY FOLDER."""
 
 import itertools
 import re
@@ -16,6 +17,17 @@ def members_exchanged(header):
             exchanged = list(lines)
             exchanged[i], exchanged[j] = lines[j], lines[i]
             yield f"{struct[2]}: member {i + 1} and {j + 1}", header[: struct.start(1)] + "".join(exchanged) + header[struct.end(1) :]
+
+
+def lists_exchanged(header):
+    """The test hands lists over in the header's order. A macro, by the call's name, hands each of the two on in the other's place, with its length."""
+    for name, parameters in re.findall(r"^\w+ (gas_day_\w+)\(([^)]*)\);", header, re.M):
+        names = re.findall(r"(\w+)(?:,|$)", parameters)
+        lists = re.findall(r"int64_t \*(\w+),\s+size_t", parameters)
+        for a, b in itertools.combinations(lists, 2):
+            other = {a: b, b: a, f"{a}_places": f"{b}_places", f"{b}_places": f"{a}_places"}
+            handed = [f"(void *)({other.get(of, of)})" if of in lists else other.get(of, of) for of in names]
+            yield f"{name}: {a} and {b}", f"{header}#define {name}({', '.join(names)}) {name}({', '.join(handed)})\n"
 
 
 def numbers_exchanged(header):
@@ -47,7 +59,7 @@ def main():
     if told(header, library, folder / "right"):
         print("exchanges: the test fails with the header as it is")
         return 1
-    wrong = list(itertools.chain(members_exchanged(header), numbers_exchanged(header), constants_off_by_one(header)))
+    wrong = list(itertools.chain(members_exchanged(header), lists_exchanged(header), numbers_exchanged(header), constants_off_by_one(header)))
     with ThreadPoolExecutor(2) as two:
         results = two.map(lambda i: told(wrong[i][1], library, folder / str(i)), range(len(wrong)))
     tried, passed = len(wrong), [name for (name, _), is_told in zip(wrong, results) if not is_told]

@@ -1,6 +1,6 @@
 /* The header against the library: a worked day through every call, every member of every answer, and every constant by what the library does with it. A struct with two
- * members exchanged, a cause by another's number or a limit that is off by one fails here (exchanges.py tries them all). The figures are worked out by hand from
- * documents 01 and 02. */
+ * members exchanged, a call with two areas exchanged, a cause by another's number or a limit that is off by one fails here (exchanges.py tries them all). The figures
+ * are worked out by hand from documents 01 and 02. */
 #include "gas_day.h"
 
 #include <inttypes.h>
@@ -24,19 +24,20 @@ static void is(int64_t given, int64_t expected, const char *text, int line) {
 
 enum { USERS = 67, ODD = 77 };
 
+/* Each with a place more than a call takes, so that it can be lent too long. */
 typedef struct {
-    int64_t table[GAS_DAY_TABLE_PLACES];
-    int64_t entry[USERS], exit[USERS], title[USERS], pooling[USERS], quantity[USERS], money[USERS];
-    uint64_t scratch[USERS];
+    int64_t table[GAS_DAY_TABLE_PLACES + 1];
+    int64_t entry[USERS + 1], exit[USERS + 1], title[USERS + 1], pooling[USERS + 1], quantity[USERS + 1], money[USERS + 1], after[USERS + 1];
+    uint64_t scratch[USERS + 1];
 } areas;
 
 static areas lent;
 
 /* No amounts; lists and scratch that hold something else. */
 static void no_amounts(void) {
-    for (int g = 0; g < USERS; g++) {
+    for (int g = 0; g <= USERS; g++) {
         lent.entry[g] = lent.exit[g] = lent.title[g] = lent.pooling[g] = 0;
-        lent.quantity[g] = lent.money[g] = ODD;
+        lent.quantity[g] = lent.money[g] = lent.after[g] = ODD;
         lent.scratch[g] = ODD;
     }
 }
@@ -46,6 +47,27 @@ static gas_day_hour settle(gas_day_day day, gas_day_hour_terms terms) {
     return gas_day_settle_hour(day, lent.table, GAS_DAY_TABLE_PLACES, terms, lent.entry, users, lent.exit, users, lent.title, users, lent.pooling, users,
                                lent.quantity, users, lent.money, users, lent.scratch, users);
 }
+
+/* The areas of a preview in their order, as the places of their lengths. */
+enum { TABLE, ENTRY, EXIT, TITLE, POOLING, QUANTITY, MONEY, AFTER, SCRATCH, AREAS };
+
+typedef struct {
+    size_t of[AREAS];
+} lengths;
+
+static lengths right_lengths(void) {
+    lengths places;
+    for (int area = 0; area < AREAS; area++) places.of[area] = area == TABLE ? GAS_DAY_TABLE_PLACES : USERS;
+    return places;
+}
+
+static gas_day_hour preview_from(const int64_t *table, lengths places, gas_day_day day, gas_day_hour_terms terms) {
+    const size_t *of = places.of;
+    return gas_day_preview_hour(day, table, of[TABLE], terms, lent.entry, of[ENTRY], lent.exit, of[EXIT], lent.title, of[TITLE], lent.pooling, of[POOLING],
+                                lent.quantity, of[QUANTITY], lent.money, of[MONEY], lent.after, of[AFTER], lent.scratch, of[SCRATCH]);
+}
+
+static gas_day_hour preview(gas_day_day day, gas_day_hour_terms terms) { return preview_from(lent.table, right_lengths(), day, terms); }
 
 static gas_day_closing close_zone(gas_day_day day, gas_day_closing_terms terms) {
     return gas_day_close_zone(day, lent.table, GAS_DAY_TABLE_PLACES, terms, lent.quantity, USERS, lent.money, USERS);
@@ -73,13 +95,36 @@ static void hour_is(gas_day_hour hour, uint64_t cause, uint64_t side, int64_t to
     IS(hour.number, number);
 }
 
-/* An hour and a closing are refused by this cause, with the same record, the other values 0 and every area as it was. */
-static void hour_refused(gas_day_day day, gas_day_hour_terms terms, uint64_t cause) {
+/* The hour, settled after its preview. The preview gives the same answer, but for the record, which is the one given; the same quantities, money and scratch; and in a
+ * list of their own the positions that the table has after the hour. It leaves the table, the amounts and what lies behind the lists. */
+static gas_day_hour settle_previewed(gas_day_day day, gas_day_hour_terms terms) {
     areas before = lent;
+    gas_day_hour seen = preview(day, terms);
+    areas shown = lent, expected = before;
+    lent = before;
     gas_day_hour hour = settle(day, terms);
+    hour_is(seen, hour.cause, hour.side, hour.total, hour.first, hour.second, hour.number);
+    same_day(seen.day, day);
+    memcpy(expected.quantity, lent.quantity, USERS * sizeof *lent.quantity);
+    memcpy(expected.money, lent.money, USERS * sizeof *lent.money);
+    memcpy(expected.scratch, lent.scratch, USERS * sizeof *lent.scratch);
+    memcpy(expected.after, &lent.table[terms.zone * GAS_DAY_ZONE_PLACES], USERS * sizeof *lent.after);
+    IS(memcmp(&expected, &shown, sizeof shown), 0);
+    return hour;
+}
+
+/* A refusal is by this cause, with the same record, the other values 0 and every area as it was. */
+static void is_refused(gas_day_hour hour, gas_day_day day, uint64_t cause, const areas *before) {
     hour_is(hour, cause, 0, 0, 0, 0, 0);
     same_day(hour.day, day);
-    IS(memcmp(&before, &lent, sizeof lent), 0);
+    IS(memcmp(before, &lent, sizeof lent), 0);
+}
+
+/* An hour and its preview are refused so, and a closing is. */
+static void hour_refused(gas_day_day day, gas_day_hour_terms terms, uint64_t cause) {
+    areas before = lent;
+    is_refused(settle(day, terms), day, cause, &before);
+    is_refused(preview(day, terms), day, cause, &before);
 }
 
 static void closing_refused(gas_day_day day, gas_day_closing_terms terms, uint64_t cause) {
@@ -94,7 +139,7 @@ static void closing_refused(gas_day_day day, gas_day_closing_terms terms, uint64
 
 static void hour_accepted(gas_day_day day, gas_day_hour_terms terms) {
     areas before = lent;
-    IS(settle(day, terms).cause, GAS_DAY_ACCEPTED);
+    IS(settle_previewed(day, terms).cause, GAS_DAY_ACCEPTED);
     lent = before;
 }
 
@@ -177,7 +222,7 @@ static gas_day_day excess(gas_day_day day) {
     lent.pooling[66] = 1;
     lent.pooling[2] = -1;
     lent.exit[2] = -3;
-    gas_day_hour hour = settle(day, terms_of(0, 1, 27, -1000, 20, 25));
+    gas_day_hour hour = settle_previewed(day, terms_of(0, 1, 27, -1000, 20, 25));
     day_is(hour.day, USERS, day.length, 1, 0, 0, 0);
     hour_is(hour, GAS_DAY_ACCEPTED, GAS_DAY_EXCESS, 9, 2, 7, 4);
     for (int g = 0; g < USERS; g++) {
@@ -196,7 +241,7 @@ static gas_day_day shortfall(gas_day_day day) {
     no_amounts();
     lent.exit[0] = -8;
     lent.title[66] = -4;
-    gas_day_hour hour = settle(day, terms_of(1, 1, 1000, -6, 20, 25));
+    gas_day_hour hour = settle_previewed(day, terms_of(1, 1, 1000, -6, 20, 25));
     day_is(hour.day, USERS, day.length, 1, 0, 1, 0);
     hour_is(hour, GAS_DAY_ACCEPTED, GAS_DAY_SHORTFALL, 6, 1, 4, 2);
     IS(lent.quantity[0], -4);
@@ -215,7 +260,7 @@ static gas_day_day to_the_last_hour(gas_day_day day) {
     for (int64_t h = 2; h <= day.length; h++) {
         no_amounts();
         closing_refused(day, closing, GAS_DAY_CAUSE_HOUR);
-        gas_day_hour hour = settle(day, wide(0, h));
+        gas_day_hour hour = settle_previewed(day, wide(0, h));
         day_is(hour.day, USERS, day.length, h, 0, 1, 0);
         hour_is(hour, GAS_DAY_ACCEPTED, GAS_DAY_WITHIN, 0, 0, 0, 0);
         day = hour.day;
@@ -348,11 +393,48 @@ static void records(gas_day_day day) {
     }
 }
 
+/* Each area of a preview with a place too few and with one too many: refused after a wrong record, and before a wrong zone. */
+static void lengths_of_a_preview(gas_day_day day) {
+    gas_day_day spoilt = day;
+    spoilt.length = 0;
+    no_amounts();
+    areas before = lent;
+    for (int area = 0; area < AREAS; area++) {
+        for (int off = -1; off <= 1; off += 2) {
+            lengths places = right_lengths();
+            places.of[area] += (size_t)off;
+            is_refused(preview_from(lent.table, places, spoilt, wide(2, 2)), spoilt, GAS_DAY_CAUSE_RECORD, &before);
+            is_refused(preview_from(lent.table, places, day, wide(2, 2)), day, GAS_DAY_CAUSE_LENGTH, &before);
+            is_refused(preview_from(lent.table, places, day, wide(1, 2)), day, GAS_DAY_CAUSE_LENGTH, &before);
+        }
+    }
+}
+
+/* A preview may be lent a table that cannot be written. Place 66 at 5 kWh: 2 above the upper threshold of 3. */
+static void table_for_reading(void) {
+    static const int64_t table[GAS_DAY_TABLE_PLACES] = {0};
+    gas_day_day day = opened_day(GAS_DAY_LENGTH_USUAL);
+    no_amounts();
+    lent.entry[66] = 5;
+    gas_day_hour seen = preview_from(table, right_lengths(), day, terms_of(1, 1, 3, 0, 20, 25));
+    hour_is(seen, GAS_DAY_ACCEPTED, GAS_DAY_EXCESS, 2, 0, 4, 1);
+    same_day(seen.day, day);
+    for (int g = 0; g < USERS; g++) {
+        IS(lent.quantity[g], g == 66 ? 2 : 0);
+        IS(lent.money[g], g == 66 ? 40 : 0);
+        IS(lent.after[g], g == 66 ? 3 : 0);
+        IS(lent.scratch[g], 0);
+    }
+}
+
 /* An area of 0 places, by a pointer that is NULL: a wrong length like any other. */
 static void empty_areas(gas_day_day day) {
     gas_day_hour hour = gas_day_settle_hour(day, NULL, 0, wide(1, 2), NULL, 0, NULL, 0, NULL, 0, NULL, 0, NULL, 0, NULL, 0, NULL, 0);
     IS(hour.cause, GAS_DAY_CAUSE_LENGTH);
     same_day(hour.day, day);
+    gas_day_hour seen = gas_day_preview_hour(day, NULL, 0, wide(1, 2), NULL, 0, NULL, 0, NULL, 0, NULL, 0, NULL, 0, NULL, 0, NULL, 0, NULL, 0);
+    IS(seen.cause, GAS_DAY_CAUSE_LENGTH);
+    same_day(seen.day, day);
     gas_day_closing_terms terms = {1, 0, 0};
     gas_day_closing closing_answer = gas_day_close_zone(day, NULL, 0, terms, NULL, 0, NULL, 0);
     IS(closing_answer.cause, GAS_DAY_CAUSE_LENGTH);
@@ -557,7 +639,9 @@ int main(void) {
     limits_of_terms(day);
     limits_of_a_closing(day);
     records(day);
+    lengths_of_a_preview(day);
     empty_areas(day);
+    table_for_reading();
     files();
     written_files();
     printf("header: %d checks, %d wrong\n", checks, wrong);

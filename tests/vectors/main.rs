@@ -1,6 +1,6 @@
 //! Calls and what the ordinary settlement answers, one a line as JSON, for the test of a binding that is not written in Rust: openings, thresholds, whole days call by
-//! call, hours and closings spoilt in every way, files, and writings. What a binding lends of its own (quantity, money, scratch, the reader's lists, the writer's bytes) is
-//! always of the right length, or enough.
+//! call, each hour after its preview, hours, previews and closings spoilt in every way, files, and writings. What a binding lends of its own (quantity, money, the positions
+//! after, scratch, the reader's lists, the writer's bytes) is always of the right length, or enough.
 
 use ordinary::made_up::{self, Kind};
 use ordinary::random::Random;
@@ -73,16 +73,32 @@ fn shown(outcome: &Outcome) -> (u64, i64, Vec<usize>) {
     }
 }
 
-fn hour(of: Of, call: &mut Call) {
+/// What an hour and its preview are given, with lists for what they fill.
+fn given_hour(of: Of, call: &mut Call) -> String {
     let users = call.amounts.entry.len();
-    (call.quantity, call.money, call.scratch) = (vec![0; users], vec![0; users], vec![0; users]);
-    let (given, a) = (given(of, call), call.amounts.clone());
-    let answer = call.settle();
+    (call.quantity, call.money, call.after, call.scratch) = (vec![0; users], vec![0; users], vec![0; users], vec![0; users]);
+    let (given, a) = (given(of, call), &call.amounts);
+    let terms = format!(r#""hour": {}, "upper": {}, "lower": {}"#, call.hour, a.terms.upper, a.terms.lower);
+    let lists = format!(r#""entry": {:?}, "exit": {:?}, "title": {:?}, "pooling": {:?}"#, a.entry, a.exit, a.title, a.pooling);
+    format!("{given}, {terms}, {lists}")
+}
+
+fn answered(answer: Result<Outcome, u64>) -> String {
     let cause = answer.as_ref().err().copied().unwrap_or(0);
     let (side, total, causers) = answer.map_or((0, 0, Vec::new()), |outcome| shown(&outcome));
-    print!(r#"{{"call": "settle_hour", {given}, "hour": {}, "upper": {}, "lower": {}, "#, call.hour, a.terms.upper, a.terms.lower);
-    print!(r#""entry": {:?}, "exit": {:?}, "title": {:?}, "pooling": {:?}, "#, a.entry, a.exit, a.title, a.pooling);
-    println!(r#""cause": {cause}, {}, "side": {side}, "total": {total}, "causers": {causers:?}}}"#, lent(call));
+    format!(r#""cause": {cause}, "side": {side}, "total": {total}, "causers": {causers:?}"#)
+}
+
+fn hour(of: Of, call: &mut Call) {
+    let given = given_hour(of, call);
+    let answered = answered(call.settle());
+    println!(r#"{{"call": "settle_hour", {given}, {answered}, {}}}"#, lent(call));
+}
+
+fn preview(of: Of, call: &mut Call) {
+    let given = given_hour(of, call);
+    let answered = answered(call.preview());
+    println!(r#"{{"call": "preview_hour", {given}, {answered}, {}, "after": {:?}}}"#, lent(call), call.after);
 }
 
 fn closing(of: Of, call: &mut Call) {
@@ -114,7 +130,12 @@ fn writing(mut writing: Writing) {
     println!(r#""cause": {cause}, "file": {:?}}}"#, &writing.file[..bytes]);
 }
 
-/// A whole day: all hours of both zones, mixed and of every kind, spoilt ones among them; closings that come too early, in time and twice.
+fn previewed_hour(of: Of, call: &mut Call) {
+    preview(of, call);
+    hour(of, call);
+}
+
+/// A whole day: all hours of both zones, mixed and of every kind, spoilt ones among them, each after its preview; closings that come too early, in time and twice.
 fn day(random: &mut Random, users: usize, length: i64) {
     opening(users as i64, length);
     let mut table = vec![0; 256];
@@ -133,7 +154,7 @@ fn day(random: &mut Random, users: usize, length: i64) {
         if random.one_in(8) {
             closing(Of::Day, &mut call);
         } else {
-            hour(Of::Day, &mut call);
+            previewed_hour(Of::Day, &mut call);
         }
     }
     closing(Of::Day, &mut call);
@@ -152,7 +173,7 @@ fn main() {
         for way in hour_ways() {
             let mut call = fit_hour(&mut random, zone);
             (way.spoil)(&mut random, &mut call);
-            hour(Of::Nothing, &mut call);
+            previewed_hour(Of::Nothing, &mut call);
         }
         for way in closing_ways() {
             let mut call = fit_closing(&mut random, zone);

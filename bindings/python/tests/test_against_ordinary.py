@@ -14,6 +14,7 @@ CAUSES = {
     "open_day": [0, 1, 21],
     "default_thresholds": [0, 4, 8],
     "settle_hour": [0, *range(2, 12)],
+    "preview_hour": [0, *range(2, 12)],
     "close_zone": [0, *range(2, 9)],
     "read_hour_file": [0, *range(13, 18)],
     "write_hour_file": [0, 18, 19],
@@ -46,7 +47,7 @@ class AgainstOrdinary(unittest.TestCase):
                 getattr(self, vector["call"])(vector)
         self.assertEqual(set(counts), {(call, cause) for call, causes in CAUSES.items() for cause in causes})
         self.assertGreaterEqual(min(counts.values()), 6)
-        self.assertGreaterEqual(self.gone_on, 600)
+        self.assertGreaterEqual(self.gone_on, 1_200)
         print(f"python: {sum(counts.values())} calls, no difference", flush=True)
 
     def open_day(self, vector):
@@ -63,20 +64,31 @@ class AgainstOrdinary(unittest.TestCase):
         self.assertEqual(answer(gas_day.default_thresholds, vector["month"], vector["zone"]), refused if vector["cause"] else accepted)
 
     def settle_hour(self, vector):
-        outcome = Outcome(Side(vector["side"]), vector["total"], vector["causers"])
-        terms = (vector["zone"], vector["hour"], Thresholds(vector["upper"], vector["lower"]))
-        self.on_day(vector, outcome=outcome, terms=terms, lists={kind: vector[kind] for kind in LISTS})
+        self.on_day(vector, gas_day.HourDone(*self.left(vector), self.outcome(vector), vector["quantity"], vector["money"]), *self.hour(vector))
+
+    def preview_hour(self, vector):
+        self.on_day(vector, gas_day.HourPreview(self.outcome(vector), vector["quantity"], vector["money"], vector["after"]), *self.hour(vector))
 
     def close_zone(self, vector):
-        self.on_day(vector, terms=(vector["zone"],), sold=vector["sold"], bought=vector["bought"])
+        self.on_day(vector, gas_day.ClosingDone(*self.left(vector), vector["sold"], vector["bought"], vector["quantity"], vector["money"]), (vector["zone"],))
 
-    def on_day(self, vector, terms, lists={}, **answered):
-        """An hour or a closing: by the function, from lists and from arrays; and by the day, if it goes on with it."""
+    def left(self, vector):
+        """Record and table after the call."""
+        return record(vector["day_after"]), vector["table_after"]
+
+    def outcome(self, vector):
+        return Outcome(Side(vector["side"]), vector["total"], vector["causers"])
+
+    def hour(self, vector):
+        """What an hour and its preview are told, and their lists."""
+        terms = (vector["zone"], vector["hour"], Thresholds(vector["upper"], vector["lower"]))
+        return terms, {kind: vector[kind] for kind in LISTS}
+
+    def on_day(self, vector, accepted, terms, lists={}):
+        """An hour, its preview or a closing: by the function, from lists and from arrays; and by the day, if it goes on with it."""
         call, before = vector["call"], (record(vector["day"]), vector["table"])
         prices = {price: vector[price] for price in ("excess_price", "shortfall_price")}
-        after = {"day": record(vector["day_after"]), "table": vector["table_after"], "quantity": vector["quantity"], "money": vector["money"]}
-        kind = gas_day.HourDone if call == "settle_hour" else gas_day.ClosingDone
-        expected = (vector["cause"], call) if vector["cause"] else kind(**after, **answered)
+        expected = (vector["cause"], call) if vector["cause"] else accepted
         arrays = {name: array("q", numbers) for name, numbers in lists.items()}
         self.assertEqual(answer(getattr(gas_day, call), *before, *terms, **prices, **lists), expected)
         self.assertEqual(answer(getattr(gas_day, call), before[0], array("q", before[1]), *terms, **prices, **arrays), expected)
@@ -84,7 +96,7 @@ class AgainstOrdinary(unittest.TestCase):
             self.gone_on += 1
             self.assertEqual(self.day.state, State(*before))
             self.assertEqual(answer(getattr(self.day, call), *terms, **prices, **lists), expected)
-            self.assertEqual(self.day.state, State(after["day"], after["table"]))
+            self.assertEqual(self.day.state, State(*self.left(vector)))
 
     def read_hour_file(self, vector):
         refused = (vector["cause"], "read_hour_file")

@@ -1,13 +1,15 @@
 """What is not a whole number is a TypeError, a number beyond 64 bits an OverflowError, wherever it stands: never a wrong number."""
 
+import itertools
 import unittest
 from array import array
 from decimal import Decimal
 from fractions import Fraction
+from functools import partial
 
 import gas_day
 from gas_day import Day, GasDay, HourFile, State, Thresholds, Zone, ZoneDay
-from worked import FILE_A, NONE, PRICES, amounts, closing_of, hour_of, idle_hour, written
+from worked import FILE_A, NONE, PRICES, closing_of, hour_of, idle_hour, idle_preview, preview_of, written
 
 NOT_WHOLE = [1.0, 0.5, float("nan"), None, "1", b"1", Decimal(1), Fraction(1), 1j, [1], object()]
 BEYOND = [2**63, -(2**63) - 1, 2**64, 2**64 + 1, -(2**64), 10**30]
@@ -24,32 +26,40 @@ class Index:
         return self.number
 
 
-# Every place where a call takes one number: the call, for a number, and the cause for the numbers at the ends of 64 bits (0: it is taken).
+# Every place where an hour takes one number, and so its preview: the cause for the numbers at the ends of 64 bits, and the call, which is given hour_of or preview_of.
+PLACES_OF_AN_HOUR = {
+    "zone": (4, lambda of, x: of(zone=x)),
+    "hour": (6, lambda of, x: of(hour=x)),
+    "upper": (8, lambda of, x: of(thresholds=Thresholds(x, 0))),
+    "lower": (8, lambda of, x: of(thresholds=Thresholds(0, x))),
+    "excess price": (8, lambda of, x: of(prices={"excess_price": x, "shortfall_price": 0})),
+    "shortfall price": (8, lambda of, x: of(prices={"excess_price": 0, "shortfall_price": x})),
+    "record's users": (2, lambda of, x: of(Day(x, 24))),
+    "record's length": (2, lambda of, x: of(Day(2, x))),
+    "record's hours of H": (2, lambda of, x: of(Day(2, 24, ZoneDay(x)))),
+    "record's hours of L": (2, lambda of, x: of(Day(2, 24, ZoneDay(), ZoneDay(x)))),
+    "record's mark of H": (2, lambda of, x: of(Day(2, 24, ZoneDay(24, x)))),
+    "record's mark of L": (2, lambda of, x: of(Day(2, 24, ZoneDay(), ZoneDay(24, x)))),
+    "a place of the table": (7, lambda of, x: of(table=255 * [0] + [x])),
+    "an entry": (9, lambda of, x: of(entry=[0, x])),
+    "an exit": (9, lambda of, x: of(exit=[x, 0])),
+    "a title amount": (9, lambda of, x: of(title=[0, x])),
+    "a pooling amount": (9, lambda of, x: of(pooling=(x, 0))),
+}
+
+# Every place where a call takes one number: the cause for the numbers at the ends of 64 bits (0: it is taken), and the call, for a number.
 PLACES = {
+    **{name: (cause, partial(call, hour_of)) for name, (cause, call) in PLACES_OF_AN_HOUR.items()},
+    **{f"{name} of a preview": (cause, partial(call, preview_of)) for name, (cause, call) in PLACES_OF_AN_HOUR.items()},
     "users": (1, lambda x: gas_day.open_day(x, 24)),
     "users of a GasDay": (1, lambda x: GasDay(x, 24)),
     "length": (21, lambda x: gas_day.open_day(2, x)),
     "length of a GasDay": (21, lambda x: GasDay(2, x)),
     "month": (8, lambda x: gas_day.default_thresholds(x, 0)),
     "zone of thresholds": (4, lambda x: gas_day.default_thresholds(1, x)),
-    "zone": (4, lambda x: hour_of(zone=x)),
-    "hour": (6, lambda x: hour_of(hour=x)),
-    "upper": (8, lambda x: hour_of(thresholds=Thresholds(x, 0))),
-    "lower": (8, lambda x: hour_of(thresholds=Thresholds(0, x))),
-    "excess price": (8, lambda x: hour_of(prices={"excess_price": x, "shortfall_price": 0})),
-    "shortfall price": (8, lambda x: hour_of(prices={"excess_price": 0, "shortfall_price": x})),
-    "record's users": (2, lambda x: hour_of(Day(x, 24))),
-    "record's length": (2, lambda x: hour_of(Day(2, x))),
-    "record's hours of H": (2, lambda x: hour_of(Day(2, 24, ZoneDay(x)))),
-    "record's hours of L": (2, lambda x: hour_of(Day(2, 24, ZoneDay(), ZoneDay(x)))),
-    "record's mark of H": (2, lambda x: hour_of(Day(2, 24, ZoneDay(24, x)))),
-    "record's mark of L": (2, lambda x: hour_of(Day(2, 24, ZoneDay(), ZoneDay(24, x)))),
-    "a place of the table": (7, lambda x: hour_of(table=255 * [0] + [x])),
-    "an entry": (9, lambda x: hour_of(entry=[0, x])),
-    "an exit": (9, lambda x: hour_of(exit=[x, 0])),
-    "a title amount": (9, lambda x: hour_of(title=[0, x])),
-    "a pooling amount": (9, lambda x: hour_of(pooling=(x, 0))),
     "an entry of a GasDay": (9, lambda x: idle_hour(GasDay(2, 24), 0, 1, entry=[0, x])),
+    "an exit of a GasDay's preview": (9, lambda x: idle_preview(GasDay(2, 24), 0, 1, exit=[0, x])),
+    "hour of a GasDay's preview": (6, lambda x: idle_preview(GasDay(2, 24), 0, x)),
     "a pooling amount of a file": (9, lambda x: GasDay(1, 24).settle_file(HourFile(1, 0, [0], [0], [0], [x]), NONE, **PRICES)),
     "hour of a file": (6, lambda x: GasDay(1, 24).settle_file(HourFile(x, 0, [0], [0], [0], [0]), NONE, **PRICES)),
     "closing's zone": (4, lambda x: closing_of(zone=x)),
@@ -141,9 +151,9 @@ class Lists(unittest.TestCase):
     def test_what_is_no_list(self):
         wrong = [None, 3, 1.5, "12", b"12", bytearray(2), memoryview(b"12"), {0, 1}, {0: 1, 1: 2}, iter([0, 0]), range(2), object()]
         for given in wrong:
-            for kind in ("entry", "exit", "title", "pooling", "table"):
+            for kind, of in itertools.product(("entry", "exit", "title", "pooling", "table"), (hour_of, preview_of)):
                 with self.subTest(kind=kind, given=given), self.assertRaises(TypeError):
-                    hour_of(**{kind: given} if given is not None or kind != "table" else {"table": 0})
+                    of(**{kind: given} if given is not None or kind != "table" else {"table": 0})
             for kind in ("entry", "exit", "title", "pooling"):
                 with self.subTest(written=kind, given=given), self.assertRaises(TypeError):
                     written(**{kind: given})
@@ -171,14 +181,14 @@ class Lists(unittest.TestCase):
         self.assertEqual(hour_of(title=Other("q", [1, 2])).quantity, [1, 2])
 
     def test_of_every_length_but_the_users(self):
-        for kind in ("entry", "exit", "title", "pooling"):
+        for kind, of in itertools.product(("entry", "exit", "title", "pooling"), (hour_of, preview_of)):
             for length in (0, 1, 3, 128, 129, 1000):
                 for given in ([0] * length, array("q", [0] * length)):
                     with self.subTest(kind=kind, length=length), self.assertRaises(gas_day.Refusal) as refused:
-                        hour_of(**{kind: given})
+                        of(**{kind: given})
                     self.assertEqual(refused.exception.number, 3)
         for length in (0, 1, 128, 255, 257, 512):
-            for call in (hour_of, closing_of):
+            for call in (hour_of, preview_of, closing_of):
                 with self.subTest(length=length), self.assertRaises(gas_day.Refusal) as refused:
                     call(table=[0] * length)
                 self.assertEqual(refused.exception.number, 3)
@@ -200,8 +210,9 @@ class Lists(unittest.TestCase):
 class OtherTypes(unittest.TestCase):
     def test_record_thresholds_and_files(self):
         for wrong in (None, (2, (0, 0), (0, 0)), {"users": 2}, ZoneDay()):
-            with self.assertRaises(TypeError):
-                gas_day.settle_hour(wrong, 256 * [0], 0, 1, NONE, **PRICES, **amounts(2))
+            for of in (hour_of, preview_of):
+                with self.assertRaises(TypeError):
+                    of(wrong)
             with self.assertRaises(TypeError):
                 gas_day.close_zone(wrong, 256 * [0], 0, **PRICES)
             with self.assertRaises(TypeError):
@@ -211,10 +222,11 @@ class OtherTypes(unittest.TestCase):
             with self.assertRaises(TypeError):
                 GasDay(2, 24).settle_file(wrong, NONE, **PRICES)
         for wrong in (None, 0, (0, 0), Day(2, 24)):
-            with self.assertRaises(TypeError):
-                hour_of(Day(2, 24, wrong))
-            with self.assertRaises(TypeError):
-                hour_of(thresholds=wrong)
+            for of in (hour_of, preview_of):
+                with self.assertRaises(TypeError):
+                    of(Day(2, 24, wrong))
+                with self.assertRaises(TypeError):
+                    of(thresholds=wrong)
 
     def test_a_files_bytes(self):
         for wrong in (None, 5, FILE_A.decode(), list(FILE_A), array("B", FILE_A)):
@@ -229,6 +241,10 @@ class OtherTypes(unittest.TestCase):
     def test_amounts_go_by_name(self):
         with self.assertRaises(TypeError):
             GasDay(1, 24).settle_hour(Zone.H, 1, NONE, 0, 0, [0], [0], [0], [0])
+        with self.assertRaises(TypeError):
+            GasDay(1, 24).preview_hour(Zone.H, 1, NONE, 0, 0, [0], [0], [0], [0])
+        with self.assertRaises(TypeError):
+            gas_day.preview_hour(Day(1, 24), 256 * [0], Zone.H, 1, NONE, 0, 0, [0], [0], [0], [0])
         with self.assertRaises(TypeError):
             gas_day.write_hour_file(1, Zone.H, [0], [0], [0], [0])
 

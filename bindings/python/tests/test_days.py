@@ -9,8 +9,8 @@ import unittest.mock
 from array import array
 
 import gas_day
-from gas_day import Day, GasDay, HourFile, Outcome, Refusal, Side, State, Thresholds, Zone, ZoneDay
-from worked import ENTRY, EXIT, FILE_A, FILE_A_IN_MWH, HEADER, PRICES, WIDE, case_a, idle_hour
+from gas_day import Day, GasDay, HourFile, HourPreview, Outcome, Refusal, Side, State, Thresholds, Zone, ZoneDay
+from worked import ENTRY, EXIT, FILE_A, FILE_A_IN_MWH, HEADER, PRICES, WIDE, amounts, case_a, idle_hour, idle_preview
 
 
 class CaseA(unittest.TestCase):
@@ -71,8 +71,31 @@ class CaseA(unittest.TestCase):
         self.assertEqual(opened, gas_day.open_day(3, 24))
         self.assertEqual({name: given[name] for name in lists}, lists)
 
+    def test_previewed(self):
+        """By a day and by the function, from lists and from arrays; and again. Nothing that is given is changed."""
+        expected = HourPreview(
+            outcome=Outcome(Side.EXCESS, 5_000_000, [0, 1]),
+            quantity=[3_333_333, 1_666_667, 0],
+            money=[66_666_660_000, 33_333_340_000, 0],
+            after=[16_666_667, 8_333_333, -3_000_000],
+        )
+        day, hour, given = case_a()
+        opened, arrays = gas_day.open_day(3, 24), {**given, "entry": array("q", ENTRY), "exit": tuple(EXIT)}
+        for of_kind in (given, arrays, given):
+            self.assertEqual(day.preview_hour(*hour, **of_kind), expected)
+            self.assertEqual(gas_day.preview_hour(opened.day, opened.table, *hour, **of_kind), expected)
+            self.assertEqual(gas_day.preview_hour(opened.day, array("q", opened.table), *hour, **of_kind), expected)
+        self.assertEqual((day.state, opened, given), (gas_day.open_day(3, 24), gas_day.open_day(3, 24), case_a()[2]))
+        self.check(day, day.settle_hour(*hour, **given))
+
     def test_shown(self):
         day, hour, given = case_a()
+        seen = day.preview_hour(*hour, **given)
+        self.assertEqual(
+            repr(seen),
+            "HourPreview(outcome=Outcome(side=<Side.EXCESS: 1>, total=5000000, causers=[0, 1]), "
+            "quantity=[3333333, 1666667, 0], money=[66666660000, 33333340000, 0], after=[16666667, 8333333, -3000000])",
+        )
         done = day.settle_hour(*hour, **given)
         self.assertEqual(
             repr(done),
@@ -109,25 +132,34 @@ class Documentation(unittest.TestCase):
     def test_its_examples(self):
         found = doctest.testmod(gas_day)
         self.assertEqual(found.failed, 0)
-        self.assertGreaterEqual(found.attempted, 15)
+        self.assertGreaterEqual(found.attempted, 22)
 
 
 class WholeDay(unittest.TestCase):
     """67 users, so that causers stand in both words of marks."""
 
+    def settled(self, day, *terms, **given):
+        """The hour, settled after its preview, which gives the same and leaves the day."""
+        before = day.state
+        seen = day.preview_hour(*terms, **given)
+        self.assertEqual(day.state, before)
+        done = day.settle_hour(*terms, **given)
+        self.assertEqual(seen, HourPreview(done.outcome, done.quantity, done.money, day.positions(terms[0])))
+        return done
+
     def first_hours(self, day):
         # H: places 1, 64, 65 and 66 at 10, place 2 at -4: a market of 36, 9 above 27; of the exact shares of 9 / 4 the spare kWh goes to place 1.
         of = lambda **places: [places.get(f"at{g}", 0) for g in range(67)]
-        done = day.settle_hour(
-            Zone.H, 1, Thresholds(27, -1000), excess_price=20, shortfall_price=25,
+        done = self.settled(
+            day, Zone.H, 1, Thresholds(27, -1000), excess_price=20, shortfall_price=25,
             entry=of(at1=15, at66=9), exit=of(at1=-5, at2=-3), title=of(at64=10, at65=10), pooling=of(at66=1, at2=-1))  # fmt: skip
         self.assertEqual(done.outcome, Outcome(Side.EXCESS, 9, [1, 64, 65, 66]))
         self.assertEqual(done.quantity, of(at1=3, at64=2, at65=2, at66=2))
         self.assertEqual(done.money, of(at1=60, at64=40, at65=40, at66=40))
         self.assertEqual(day.positions(Zone.H), of(at1=7, at2=-4, at64=8, at65=8, at66=8))
         # L: place 0 at -8, place 66 at -4: a market of -12, 6 below -6.
-        done = day.settle_hour(
-            Zone.L, 1, Thresholds(1000, -6), excess_price=20, shortfall_price=25,
+        done = self.settled(
+            day, Zone.L, 1, Thresholds(1000, -6), excess_price=20, shortfall_price=25,
             entry=of(), exit=of(at0=-8), title=of(at66=-4), pooling=of())  # fmt: skip
         self.assertEqual(done.outcome, Outcome(Side.SHORTFALL, 6, [0, 66]))
         self.assertEqual(done.quantity, of(at0=-4, at66=-2))
@@ -148,13 +180,14 @@ class WholeDay(unittest.TestCase):
                 with self.assertRaises(Refusal) as refused:
                     day.close_zone(zone, **PRICES)
                 self.assertEqual(refused.exception.number, 6)
-                done = idle_hour(day, zone, hour)
+                done = self.settled(day, zone, hour, WIDE, **PRICES, **amounts(67))
                 self.assertEqual(done.outcome, Outcome(Side.WITHIN, 0, []))
                 self.assertEqual(done.quantity, 67 * [0])
         self.assertEqual(day.record, Day(67, length, ZoneDay(length, False), ZoneDay(length, False)))
-        with self.assertRaises(Refusal) as refused:
-            idle_hour(day, Zone.H, length + 1)
-        self.assertEqual(refused.exception.number, 6)
+        for idle in (idle_preview, idle_hour):
+            with self.assertRaises(Refusal) as refused:
+                idle(day, Zone.H, length + 1)
+            self.assertEqual(refused.exception.number, 6)
         done = day.close_zone(Zone.H, excess_price=30, shortfall_price=35)
         self.assertEqual((done.sold, done.bought), (31, 4))
         self.assertEqual([done.quantity[g] for g in (0, 1, 2, 64, 65, 66)], [0, 7, -4, 8, 8, 8])
@@ -181,6 +214,8 @@ class WholeDay(unittest.TestCase):
 
     def test_what_is_given_and_answered_is_the_callers_own(self):
         day = GasDay(3, 24)
+        seen = idle_preview(day, Zone.H, 1, entry=[5, 0, 0])
+        seen.after[0] = 6
         done = idle_hour(day, Zone.H, 1, entry=[5, 0, 0])
         given = array("q", done.table)
         other = GasDay.resume(State(done.day, given))
@@ -220,13 +255,13 @@ class WholeDay(unittest.TestCase):
 
 
 class Turns(unittest.TestCase):
-    def second_while_the_first_is_under_way(self, day, name, call):
-        """The cause of a call that another thread makes while the library is at work on the first; and that the first is accepted."""
+    def second_while_the_first_is_under_way(self, day, name, call, other=None):
+        """The cause of a call, the same or another, that another thread makes while the library is at work on the first; and that the first is accepted."""
         numbers, library, turn, waits_or_ended = [], gas_day._library, day._turn, threading.Event()
 
         def second():
             try:
-                call()
+                (other or call)()
             except Refusal as refusal:
                 numbers.append(refusal.number)
             finally:
@@ -266,18 +301,33 @@ class Turns(unittest.TestCase):
         numbers = self.second_while_the_first_is_under_way(day, "gas_day_close_zone", lambda: day.close_zone(Zone.H, **PRICES))
         self.assertEqual((numbers, day.record.h), ([5], ZoneDay(24, True)))
 
+    def test_a_preview_waits_for_no_hour(self):
+        """It shows its hour on the day as it stands, which the hour that is under way has not changed."""
+        day, seen = GasDay(1, 24), []
+        hour, look = lambda: idle_hour(day, Zone.H, 1, entry=[5]), lambda: seen.append(idle_preview(day, Zone.H, 1, entry=[7]).after)
+        numbers = self.second_while_the_first_is_under_way(day, "gas_day_settle_hour", hour, look)
+        self.assertEqual((numbers, seen, day.positions(Zone.H)), ([], [[7]], [5]))
+
+    def test_no_hour_waits_for_a_preview(self):
+        """And none is undone by it."""
+        day, seen = GasDay(1, 24), []
+        hour, look = lambda: idle_hour(day, Zone.H, 1, entry=[5]), lambda: seen.append(idle_preview(day, Zone.H, 1, entry=[7]).after)
+        numbers = self.second_while_the_first_is_under_way(day, "gas_day_preview_hour", look, hour)
+        self.assertEqual((numbers, seen, day.positions(Zone.H), day.record.h.hours), ([], [[7]], [5], 1))
+
     def test_an_argument_that_uses_the_day(self):
         """The hour that it settles comes first, and then its own is refused: nothing waits for itself."""
-        day = GasDay(1, 24)
+        for idle in (idle_hour, idle_preview):
+            day = GasDay(1, 24)
 
-        class Settles:
-            def __index__(self):
-                idle_hour(day, Zone.H, 1, entry=[5])
-                return 7
+            class Settles:
+                def __index__(self):
+                    idle_hour(day, Zone.H, 1, entry=[5])
+                    return 7
 
-        with self.assertRaises(Refusal) as refused:
-            idle_hour(day, Zone.H, 1, entry=[Settles()])
-        self.assertEqual((refused.exception.number, day.positions(Zone.H)), (6, [5]))
+            with self.assertRaises(Refusal) as refused:
+                idle(day, Zone.H, 1, entry=[Settles()])
+            self.assertEqual((refused.exception.number, day.positions(Zone.H)), (6, [5]))
 
 
 if __name__ == "__main__":

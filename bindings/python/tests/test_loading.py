@@ -92,10 +92,10 @@ class Loading(unittest.TestCase):
         self.assertRegex(imported(MODULE, GAS_DAY_LIBRARY=library), "^ImportError: the gas_day library cannot be loaded: .*gas_day_version")
 
     def test_an_older_library_of_this_version(self):
-        """Each lacks what was added after it."""
+        """Each lacks one call, whatever else it has."""
         calls = list(gas_day._CALLS)
         for number, lacking in enumerate(calls):
-            others = "".join(f"void {call}(void) {{}} " for call in calls[:number])
+            others = "".join(f"void {call}(void) {{}} " for call in calls if call != lacking)
             library = self.built(f"older{number}.so", f"unsigned long gas_day_version(void) {{ return {VERSION}; }} {others}")
             words = f"{library} has no {lacking}: it is older than this module; bindings/build makes a new one, and GAS_DAY_LIBRARY may name it"
             self.assertEqual(imported(MODULE, GAS_DAY_LIBRARY=library), f"ImportError: {words}")

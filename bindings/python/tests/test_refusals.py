@@ -6,7 +6,7 @@ from ctypes import c_int64
 
 import gas_day
 from gas_day import Cause, GasDay, Refusal, State, Thresholds, Zone
-from worked import FILE_A, NONE, PRICES, REFUSED, amounts, case_a, idle_hour
+from worked import FILE_A, NONE, PRICES, REFUSED, amounts, case_a, idle_hour, idle_preview
 
 
 class EveryCause(unittest.TestCase):
@@ -53,7 +53,8 @@ class EveryCause(unittest.TestCase):
         exec("from gas_day import *", names)
         public = {name for name in vars(gas_day) if name[0].isupper() and getattr(vars(gas_day)[name], "__module__", "gas_day") == "gas_day"}
         self.assertEqual(public - {"Numbers"} - set(names), set())
-        self.assertLessEqual({"open_day", "default_thresholds", "settle_hour", "close_zone", "read_hour_file", "write_hour_file"}, set(names))
+        calls = {"open_day", "default_thresholds", "settle_hour", "preview_hour", "close_zone", "read_hour_file", "write_hour_file"}
+        self.assertLessEqual(calls, set(names))
 
     def test_can_be_stored(self):
         refusal = pickle.loads(pickle.dumps(Refusal("settle_hour", Cause.HOUR)))
@@ -72,16 +73,17 @@ class LeavesTheDayAsItWas(unittest.TestCase):
         self.assertEqual(refused.exception.number, number)
         self.assertEqual(self.day.state, before)
 
-    def test_every_cause_of_an_hour(self):
+    def test_every_cause_of_an_hour_and_of_its_preview(self):
         day = self.day
-        self.refused(3, lambda: day.settle_hour(0, 2, NONE, **PRICES, **amounts(4)))
-        self.refused(4, lambda: idle_hour(day, 2, 2))
-        self.refused(6, lambda: idle_hour(day, 0, 1))
-        self.refused(6, lambda: idle_hour(day, 0, 3))
-        self.refused(8, lambda: idle_hour(day, 0, 2, Thresholds(-1, 0)))
-        self.refused(9, lambda: idle_hour(day, 0, 2, entry=[0, -1, 0]))
-        self.refused(10, lambda: idle_hour(day, 0, 2, pooling=[0, 0, 5]))
-        self.refused(11, lambda: idle_hour(day, 0, 2, title=[50_000_000, 0, 0], entry=[50_000_000, 0, 0]))
+        for call, idle in ((day.settle_hour, idle_hour), (day.preview_hour, idle_preview)):
+            self.refused(3, lambda: call(0, 2, NONE, **PRICES, **amounts(4)))
+            self.refused(4, lambda: idle(day, 2, 2))
+            self.refused(6, lambda: idle(day, 0, 1))
+            self.refused(6, lambda: idle(day, 0, 3))
+            self.refused(8, lambda: idle(day, 0, 2, Thresholds(-1, 0)))
+            self.refused(9, lambda: idle(day, 0, 2, entry=[0, -1, 0]))
+            self.refused(10, lambda: idle(day, 0, 2, pooling=[0, 0, 5]))
+            self.refused(11, lambda: idle(day, 0, 2, title=[50_000_000, 0, 0], entry=[50_000_000, 0, 0]))
         self.assertEqual(idle_hour(day, 0, 2).day.h.hours, 2)
 
     def test_every_cause_of_a_closing(self):
@@ -94,6 +96,7 @@ class LeavesTheDayAsItWas(unittest.TestCase):
         day.close_zone(0, **PRICES)
         self.refused(5, lambda: day.close_zone(0, **PRICES))
         self.refused(5, lambda: idle_hour(day, 0, 24))
+        self.refused(5, lambda: idle_preview(day, 0, 24))
         self.refused(6, lambda: idle_hour(day, Zone.L, 2))
 
     def test_a_zone_that_is_none(self):
@@ -104,16 +107,19 @@ class LeavesTheDayAsItWas(unittest.TestCase):
 
     def test_a_day_that_no_opening_opened(self):
         self.day = GasDay.resume(State(self.day.record, 256 * [1]))
-        self.refused(7, lambda: idle_hour(self.day, 0, 2))
-        self.refused(7, lambda: idle_hour(self.day, Zone.L, 1))
+        for idle in (idle_hour, idle_preview):
+            self.refused(7, lambda: idle(self.day, 0, 2))
+            self.refused(7, lambda: idle(self.day, Zone.L, 1))
         self.day = GasDay.resume(State(self.day.record, 255 * [0]))
-        self.refused(3, lambda: idle_hour(self.day, 0, 2))
+        for idle in (idle_hour, idle_preview):
+            self.refused(3, lambda: idle(self.day, 0, 2))
 
     def test_a_wrong_argument(self):
         before = self.day.state
         for wrong, error in ((1.0, TypeError), (None, TypeError), ("1", TypeError), (2**63, OverflowError)):
-            with self.assertRaises(error):
-                idle_hour(self.day, 0, 2, entry=[0, 0, wrong])
+            for idle in (idle_hour, idle_preview):
+                with self.assertRaises(error):
+                    idle(self.day, 0, 2, entry=[0, 0, wrong])
             with self.assertRaises(error):
                 self.day.close_zone(0, excess_price=wrong, shortfall_price=0)
             self.assertEqual(self.day.state, before)

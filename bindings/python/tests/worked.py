@@ -1,6 +1,21 @@
 """What the tests share: case A, calls in short, and every cause with a call that is refused by it."""
 
-from gas_day import GasDay, Thresholds, Zone, ZoneDay, Day, close_zone, default_thresholds, open_day, read_hour_file, settle_hour, write_hour_file
+from functools import partial
+
+from gas_day import (
+    Day,
+    GasDay,
+    Thresholds,
+    Zone,
+    ZoneDay,
+    close_zone,
+    default_thresholds,
+    open_day,
+    preview_hour,
+    read_hour_file,
+    settle_hour,
+    write_hour_file,
+)
 
 ENTRY, EXIT = [30_000_000, 15_000_000, 2_000_000], [-10_000_000, -5_000_000, -5_000_000]
 PRICES = {"excess_price": 20_000, "shortfall_price": 25_000}
@@ -21,14 +36,22 @@ def idle_hour(day, zone, hour, thresholds=WIDE, **given):
     return day.settle_hour(zone, hour, thresholds, **PRICES, **amounts(day.record.users, **given))
 
 
+def idle_preview(day, zone, hour, thresholds=WIDE, **given):
+    """The same, previewed."""
+    return day.preview_hour(zone, hour, thresholds, **PRICES, **amounts(day.record.users, **given))
+
+
 def case_a():
     """The day of case A before its hour, and what its hour is given."""
     return GasDay(3, 24), (Zone.H, 1, default_thresholds(1, Zone.H)), {**PRICES, **amounts(3, entry=ENTRY, exit=EXIT)}
 
 
-def hour_of(record=Day(2, 24), table=None, zone=Zone.H, hour=1, thresholds=NONE, prices=None, **given):
+def hour_of(record=Day(2, 24), table=None, zone=Zone.H, hour=1, thresholds=NONE, prices=None, call=settle_hour, **given):
     table = [0] * 256 if table is None else table
-    return settle_hour(record, table, zone, hour, thresholds, **(prices or PRICES), **amounts(2, **given))
+    return call(record, table, zone, hour, thresholds, **(prices or PRICES), **amounts(2, **given))
+
+
+preview_of = partial(hour_of, call=preview_hour)
 
 
 def closing_of(record=Day(2, 24, ZoneDay(24)), table=None, zone=Zone.H, prices=None):
@@ -47,6 +70,43 @@ def table_with(place, position):
 
 PRICE_TOO_HIGH = {"excess_price": 10_000_001, "shortfall_price": 0}
 
+# Number, and the call, of which it is given the one or the other: hour_of or preview_of.
+REFUSED_HOURS = [
+    (2, lambda of: of(Day(129, 24))),
+    (2, lambda of: of(Day(2, 22))),
+    (2, lambda of: of(Day(2, 26), table=[])),
+    (2, lambda of: of(Day(2, 24, ZoneDay(25)))),
+    (2, lambda of: of(Day(2, 23, ZoneDay(), ZoneDay(24)))),
+    (2, lambda of: of(Day(2, 25, ZoneDay(), ZoneDay(24, True)))),
+    (2, lambda of: of(Day(2, 24, ZoneDay(), ZoneDay(23, True)))),
+    (2, lambda of: of(Day(2, 24, ZoneDay(24, 2)), zone=Zone.L)),
+    (3, lambda of: of(table=[0] * 255)),
+    (3, lambda of: of(table=[])),
+    (3, lambda of: of(entry=[0, 0, 0])),
+    (3, lambda of: of(exit=[0])),
+    (3, lambda of: of(title=[])),
+    (3, lambda of: of(pooling=[0] * 128)),
+    (4, lambda of: of(zone=2)),
+    (4, lambda of: of(zone=-1)),
+    (5, lambda of: of(Day(2, 24, ZoneDay(24, True)), hour=25)),
+    (6, lambda of: of(hour=2)),
+    (6, lambda of: of(Day(2, 24, ZoneDay(24)), hour=25)),
+    (6, lambda of: of(Day(2, 23, ZoneDay(23)), hour=24)),
+    (6, lambda of: of(Day(2, 25, ZoneDay(25)), hour=26)),
+    (7, lambda of: of(table=table_with(0, 1))),
+    (7, lambda of: of(Day(2, 24, ZoneDay(1)), table_with(2, -1), hour=2)),
+    (7, lambda of: of(Day(2, 24, ZoneDay(1)), table_with(1, 100_000_001), hour=2)),
+    (8, lambda of: of(thresholds=Thresholds(1_000_000_001, 0))),
+    (8, lambda of: of(thresholds=Thresholds(0, 1))),
+    (8, lambda of: of(prices=PRICE_TOO_HIGH)),
+    (9, lambda of: of(entry=[0, 50_000_001])),
+    (9, lambda of: of(exit=[1, 0])),
+    (9, lambda of: of(title=[0, -50_000_001])),
+    (9, lambda of: of(pooling=[-100_000_001, 100_000_001])),
+    (10, lambda of: of(pooling=[1, 0])),
+    (11, lambda of: of(entry=[50_000_000, 0], title=[50_000_000, 0], pooling=[1, -1])),
+]
+
 # Number, name of the call, and the call.
 REFUSED = [
     (1, "open_day", lambda: open_day(0, 24)),
@@ -58,39 +118,8 @@ REFUSED = [
     (4, "default_thresholds", lambda: default_thresholds(1, 2)),
     (8, "default_thresholds", lambda: default_thresholds(13, 0)),
     (8, "default_thresholds", lambda: default_thresholds(0, Zone.L)),
-    (2, "settle_hour", lambda: hour_of(Day(129, 24))),
-    (2, "settle_hour", lambda: hour_of(Day(2, 22))),
-    (2, "settle_hour", lambda: hour_of(Day(2, 26), table=[])),
-    (2, "settle_hour", lambda: hour_of(Day(2, 24, ZoneDay(25)))),
-    (2, "settle_hour", lambda: hour_of(Day(2, 23, ZoneDay(), ZoneDay(24)))),
-    (2, "settle_hour", lambda: hour_of(Day(2, 25, ZoneDay(), ZoneDay(24, True)))),
-    (2, "settle_hour", lambda: hour_of(Day(2, 24, ZoneDay(), ZoneDay(23, True)))),
-    (2, "settle_hour", lambda: hour_of(Day(2, 24, ZoneDay(24, 2)), zone=Zone.L)),
-    (3, "settle_hour", lambda: hour_of(table=[0] * 255)),
-    (3, "settle_hour", lambda: hour_of(table=[])),
-    (3, "settle_hour", lambda: hour_of(entry=[0, 0, 0])),
-    (3, "settle_hour", lambda: hour_of(exit=[0])),
-    (3, "settle_hour", lambda: hour_of(title=[])),
-    (3, "settle_hour", lambda: hour_of(pooling=[0] * 128)),
-    (4, "settle_hour", lambda: hour_of(zone=2)),
-    (4, "settle_hour", lambda: hour_of(zone=-1)),
-    (5, "settle_hour", lambda: hour_of(Day(2, 24, ZoneDay(24, True)), hour=25)),
-    (6, "settle_hour", lambda: hour_of(hour=2)),
-    (6, "settle_hour", lambda: hour_of(Day(2, 24, ZoneDay(24)), hour=25)),
-    (6, "settle_hour", lambda: hour_of(Day(2, 23, ZoneDay(23)), hour=24)),
-    (6, "settle_hour", lambda: hour_of(Day(2, 25, ZoneDay(25)), hour=26)),
-    (7, "settle_hour", lambda: hour_of(table=table_with(0, 1))),
-    (7, "settle_hour", lambda: hour_of(Day(2, 24, ZoneDay(1)), table_with(2, -1), hour=2)),
-    (7, "settle_hour", lambda: hour_of(Day(2, 24, ZoneDay(1)), table_with(1, 100_000_001), hour=2)),
-    (8, "settle_hour", lambda: hour_of(thresholds=Thresholds(1_000_000_001, 0))),
-    (8, "settle_hour", lambda: hour_of(thresholds=Thresholds(0, 1))),
-    (8, "settle_hour", lambda: hour_of(prices=PRICE_TOO_HIGH)),
-    (9, "settle_hour", lambda: hour_of(entry=[0, 50_000_001])),
-    (9, "settle_hour", lambda: hour_of(exit=[1, 0])),
-    (9, "settle_hour", lambda: hour_of(title=[0, -50_000_001])),
-    (9, "settle_hour", lambda: hour_of(pooling=[-100_000_001, 100_000_001])),
-    (10, "settle_hour", lambda: hour_of(pooling=[1, 0])),
-    (11, "settle_hour", lambda: hour_of(entry=[50_000_000, 0], title=[50_000_000, 0], pooling=[1, -1])),
+    *((number, "settle_hour", partial(call, hour_of)) for number, call in REFUSED_HOURS),
+    *((number, "preview_hour", partial(call, preview_of)) for number, call in REFUSED_HOURS),
     (2, "close_zone", lambda: closing_of(Day(0, 24, ZoneDay(24)))),
     (2, "close_zone", lambda: closing_of(Day(2**63 - 1, 24, ZoneDay(24)))),
     (3, "close_zone", lambda: closing_of(table=[0] * 257)),

@@ -72,6 +72,28 @@ extern "C" {
         scratch: *mut u64,
         scratch_places: usize,
     ) -> Hour;
+    pub fn gas_day_preview_hour(
+        day: Day,
+        table: *const i64,
+        table_places: usize,
+        terms: HourTerms,
+        entry: *const i64,
+        entry_places: usize,
+        exit: *const i64,
+        exit_places: usize,
+        title: *const i64,
+        title_places: usize,
+        pooling: *const i64,
+        pooling_places: usize,
+        quantity: *mut i64,
+        quantity_places: usize,
+        money: *mut i64,
+        money_places: usize,
+        after: *mut i64,
+        after_places: usize,
+        scratch: *mut u64,
+        scratch_places: usize,
+    ) -> Hour;
     pub fn gas_day_close_zone(
         day: Day,
         table: *mut i64,

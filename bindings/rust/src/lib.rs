@@ -1,5 +1,5 @@
-//! The hourly balancing settlement of a gas market, recomputed: opening a Gas Day, default thresholds, settling an hour, closing a zone, and reading and writing an
-//! hour's file. The calls are those of a library that is proved to give exactly the answer that the requirements define, for every input.
+//! The hourly balancing settlement of a gas market, recomputed: opening a Gas Day, default thresholds, settling an hour and previewing one, closing a zone, and reading and
+//! writing an hour's file. The calls are those of a library that is proved to give exactly the answer that the requirements define, for every input.
 //!
 //! A call may be given anything. It is refused with the first [`Cause`] that applies, and then everything lent is as it was; or it is accepted, and then the answer and
 //! everything lent are what the rules name. No call keeps anything, so calls may run in parallel, each on areas of its own. A call panics only if the library that was
@@ -113,7 +113,7 @@ pub struct Amounts<'a> {
     pub pooling: &'a [i64],
 }
 
-/// The lists that an hour or a closing fills, one number for every user.
+/// The lists that an hour, a preview or a closing fills, one number for every user.
 #[derive(PartialEq, Eq, Hash, Debug)]
 pub struct Outputs<'a> {
     /// In kWh: positive where the user sells, negative where it buys.
@@ -355,6 +355,70 @@ fn outcome(hour: &boundary::Hour) -> Outcome {
         other => panic!("a library of this version answers no side {other}"),
     };
     Outcome::Settled { side, total: hour.total, causers: Causers { first: hour.first, second: hour.second, number: hour.number } }
+}
+
+/// Shows an hour before it is booked: fills quantity and money and answers what [`settle_hour`] would, puts the users' positions after the hour into `after`, and sets the
+/// scratch to zero. Table and record are only read, so the hour can be previewed with other amounts before it is settled. The table has 256 places; every list and
+/// the scratch has as many as the record has users. Causes 2 to 11, as of an hour; refused, everything lent is as it was.
+///
+/// ```
+/// use gas_day::*;
+/// let mut table = [0; limits::TABLE_PLACES];
+/// let mut day = open(2, 24, &mut table).unwrap();
+/// let terms = HourTerms { zone: 0, hour: 1, upper: 4, lower: 0, excess_price: 20_000, shortfall_price: 25_000 };
+/// let amounts = Amounts { entry: &[9, 0], exit: &[0, -2], title: &[0; 2], pooling: &[0; 2] };
+/// let (mut quantity, mut money, mut after) = ([0; 2], [0; 2], [0; 2]);
+///
+/// let before = (day, table);
+/// let outputs = Outputs { quantity: &mut quantity, money: &mut money };
+/// let seen = preview_hour(&day, &table, terms, amounts, outputs, &mut after, &mut [0; 2]).unwrap();
+/// assert_eq!((quantity, money, after), ([3, 0], [60_000, 0], [6, -2]));
+/// assert_eq!((day, table), before);
+///
+/// let outputs = Outputs { quantity: &mut quantity, money: &mut money };
+/// assert_eq!(settle_hour(&mut day, &mut table, terms, amounts, outputs, &mut [0; 2]), Ok(seen));
+/// assert_eq!((quantity, money), ([3, 0], [60_000, 0]));
+/// assert_eq!((day.h.hours, &table[..2]), (1, &after[..]));
+/// ```
+pub fn preview_hour(
+    day: &Day,
+    table: &[i64],
+    terms: HourTerms,
+    amounts: Amounts<'_>,
+    outputs: Outputs<'_>,
+    after: &mut [i64],
+    scratch: &mut [u64],
+) -> Result<Outcome, Cause> {
+    look_at_version();
+    let Amounts { entry, exit, title, pooling } = amounts;
+    let Outputs { quantity, money } = outputs;
+    // SAFETY: above.
+    let seen = unsafe {
+        boundary::gas_day_preview_hour(
+            *day,
+            table.as_ptr(),
+            table.len(),
+            terms,
+            entry.as_ptr(),
+            entry.len(),
+            exit.as_ptr(),
+            exit.len(),
+            title.as_ptr(),
+            title.len(),
+            pooling.as_ptr(),
+            pooling.len(),
+            quantity.as_mut_ptr(),
+            quantity.len(),
+            money.as_mut_ptr(),
+            money.len(),
+            after.as_mut_ptr(),
+            after.len(),
+            scratch.as_mut_ptr(),
+            scratch.len(),
+        )
+    };
+    accepted(seen.cause)?;
+    Ok(outcome(&seen))
 }
 
 /// Closes a zone after all hours of its day: fills quantity and money with each user's whole position and its price, sets the zone's places to zero and marks the zone closed in

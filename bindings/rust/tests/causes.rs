@@ -2,8 +2,9 @@
 
 use gas_day::limits::{FILE_PLACES, TABLE_PLACES, WRITE_BYTES_MOST};
 use gas_day::*;
+use std::fmt::Debug;
 
-/// Everything that an hour or a closing of two users is given and lent.
+/// Everything that an hour, its preview or a closing of two users is given and lent.
 #[derive(Clone, PartialEq, Debug)]
 struct Call {
     day: Day,
@@ -12,6 +13,7 @@ struct Call {
     amounts: [Vec<i64>; 4],
     quantity: Vec<i64>,
     money: Vec<i64>,
+    after: Vec<i64>,
     scratch: Vec<u64>,
 }
 
@@ -26,6 +28,7 @@ fn fit() -> Call {
         amounts: [vec![1, 0], vec![0, -1], vec![0, 0], vec![3, -3]],
         quantity: vec![77; 2],
         money: vec![77; 2],
+        after: vec![77; 2],
         scratch: vec![77; 2],
     }
 }
@@ -45,6 +48,13 @@ impl Call {
         settle_hour(&mut self.day, &mut self.table, self.terms, amounts, outputs, &mut self.scratch)
     }
 
+    fn preview(&mut self) -> Result<Outcome, Cause> {
+        let [entry, exit, title, pooling] = &self.amounts;
+        let amounts = Amounts { entry, exit, title, pooling };
+        let outputs = Outputs { quantity: &mut self.quantity, money: &mut self.money };
+        preview_hour(&self.day, &self.table, self.terms, amounts, outputs, &mut self.after, &mut self.scratch)
+    }
+
     fn close(&mut self) -> Result<Sums, Cause> {
         let HourTerms { zone, excess_price, shortfall_price, .. } = self.terms;
         let outputs = Outputs { quantity: &mut self.quantity, money: &mut self.money };
@@ -55,7 +65,7 @@ impl Call {
 /// A cause, and what brings it about.
 type Spoilt = (Cause, fn(&mut Call));
 
-/// Of hours and of closings.
+/// Of hours, of previews and of closings.
 const SHARED: [Spoilt; 26] = [
     (Cause::Record, |call| call.day.users = 0),
     (Cause::Record, |call| call.day.users = i64::MAX),
@@ -85,7 +95,7 @@ const SHARED: [Spoilt; 26] = [
     (Cause::Closed, |call| call.day.h = ZoneDay { hours: 24, closed: 1 }),
 ];
 
-/// Of hours alone.
+/// Of hours and of previews.
 const HOURS: [Spoilt; 18] = [
     (Cause::Length, |call| call.amounts[0].push(0)),
     (Cause::Length, |call| call.amounts[1].clear()),
@@ -107,29 +117,41 @@ const HOURS: [Spoilt; 18] = [
     (Cause::Position, |call| call.table[0] = limits::POSITION_MOST),
 ];
 
-#[test]
-fn of_an_hour() {
-    assert!(fit().settle().is_ok());
-    for (number, (cause, spoil)) in SHARED.iter().chain(&HOURS).enumerate() {
+/// Of previews alone: the positions after are looked at before the zone, and after the record.
+const PREVIEWS: [Spoilt; 5] = [
+    (Cause::Length, |call| call.after.push(77)),
+    (Cause::Length, |call| call.after.truncate(1)),
+    (Cause::Length, |call| call.after.clear()),
+    (Cause::Length, |call| (call.terms.zone, call.after) = (2, vec![77; 128])),
+    (Cause::Record, |call| (call.day.length, call.after) = (22, vec![77; 3])),
+];
+
+/// A call that is accepted is refused by its cause in each of these ways, and leaves everything as it was.
+fn refused<T: PartialEq + Debug>(fit: fn() -> Call, make: fn(&mut Call) -> Result<T, Cause>, ways: &[&[Spoilt]]) {
+    assert!(make(&mut fit()).is_ok());
+    for (number, (cause, spoil)) in ways.iter().copied().flatten().enumerate() {
         let mut call = fit();
         spoil(&mut call);
         let before = call.clone();
-        assert_eq!(call.settle(), Err(*cause), "way {number}");
+        assert_eq!(make(&mut call), Err(*cause), "way {number}");
         assert_eq!(call, before, "way {number}");
     }
 }
 
 #[test]
+fn of_an_hour() {
+    refused(fit, Call::settle, &[&SHARED, &HOURS]);
+}
+
+#[test]
+fn of_a_preview() {
+    refused(fit, Call::preview, &[&SHARED, &HOURS, &PREVIEWS]);
+}
+
+#[test]
 fn of_a_closing() {
-    assert!(fit_closing().close().is_ok());
     let early: [Spoilt; 2] = [(Cause::Hour, |call| call.day.h.hours = 23), (Cause::Hour, |call| call.day.length = 25)];
-    for (number, (cause, spoil)) in SHARED.iter().chain(&early).enumerate() {
-        let mut call = fit_closing();
-        spoil(&mut call);
-        let before = call.clone();
-        assert_eq!(call.close(), Err(*cause), "way {number}");
-        assert_eq!(call, before, "way {number}");
-    }
+    refused(fit_closing, Call::close, &[&SHARED, &early]);
 }
 
 #[test]

@@ -19,6 +19,9 @@ fn read(file: &[u8]) -> (HourFile, [[i64; FILE_PLACES]; 4]) {
 
 const CASE_A: &[u8; 112] = b"h,z,g,EEA,XEA,NCTTN,IPT\r\n1,H,0,30000000,-10000000,0,0\r\n1,H,1,15000000,-5000000,0,0\r\n1,H,2,2000000,-5000000,0,0\r\n";
 
+const AMOUNTS_A: Amounts =
+    Amounts { entry: &[30_000_000, 15_000_000, 2_000_000], exit: &[-10_000_000, -5_000_000, -5_000_000], title: &[0; 3], pooling: &[0; 3] };
+
 #[test]
 fn case_a_by_its_file() {
     let (file, [entries, exits, titles, poolings]) = read(CASE_A);
@@ -45,6 +48,24 @@ fn case_a_by_its_file() {
 }
 
 #[test]
+fn case_a_previewed() {
+    let mut table = [77; TABLE_PLACES];
+    let day = open(3, 24, &mut table).unwrap();
+    let terms = HourTerms { excess_price: 20_000, shortfall_price: 25_000, ..terms(0, 1, default_thresholds(1, 0).unwrap()) };
+    let (mut quantity, mut money, mut after, mut scratch) = ([77; 3], [77; 3], [77; 3], [77; 3]);
+    let outputs = Outputs { quantity: &mut quantity, money: &mut money };
+    let outcome = preview_hour(&day, &table, terms, AMOUNTS_A, outputs, &mut after, &mut scratch).unwrap();
+    let causers = Causers { first: 3, second: 0, number: 2 };
+    assert_eq!(outcome, Outcome::Settled { side: Side::Excess, total: 5_000_000, causers });
+    assert_eq!(quantity, [3_333_333, 1_666_667, 0]);
+    assert_eq!(money, [66_666_660_000, 33_333_340_000, 0]);
+    assert_eq!(after, [16_666_667, 8_333_333, -3_000_000]);
+    assert_eq!(scratch, [0; 3]);
+    assert_eq!(table, [0; TABLE_PLACES]);
+    assert_eq!(day, Day { users: 3, length: 24, h: ZoneDay::default(), l: ZoneDay::default() });
+}
+
+#[test]
 fn case_a_by_its_file_in_mwh() {
     let in_mwh = b"h,z,g,EEA,XEA,NCTTN,IPT\r\n1,H,0,30000.000,-10000.000,0.000,0.000\r\n1,H,1,15000.000,-5000.000,0.000,0.000\r\n1,H,2,2000.000,-5000.000,0.000,0.000\r\n";
     assert_eq!(read(in_mwh), read(CASE_A));
@@ -68,9 +89,8 @@ fn both_units_in_one_file() {
 
 #[test]
 fn case_a_written() {
-    let amounts = Amounts { entry: &[30_000_000, 15_000_000, 2_000_000], exit: &[-10_000_000, -5_000_000, -5_000_000], title: &[0; 3], pooling: &[0; 3] };
     let mut file = [77; CASE_A.len() + 2];
-    assert_eq!(write_hour_file(1, 0, 3, amounts, &mut file), Ok(CASE_A.len()));
+    assert_eq!(write_hour_file(1, 0, 3, AMOUNTS_A, &mut file), Ok(CASE_A.len()));
     assert_eq!((&file[..CASE_A.len()], &file[CASE_A.len()..]), (&CASE_A[..], &[77; 2][..]));
 }
 
@@ -106,10 +126,22 @@ fn only<const N: usize>(places: [(usize, i64); N]) -> [i64; USERS] {
 }
 
 impl Worked {
+    /// The hour, settled after its preview, which gives the same and leaves record and table.
     fn hour(&mut self, terms: HourTerms, [entry, exit, title, pooling]: [[i64; USERS]; 4]) -> Result<Outcome, Cause> {
-        let outputs = Outputs { quantity: &mut self.quantity, money: &mut self.money };
         let amounts = Amounts { entry: &entry, exit: &exit, title: &title, pooling: &pooling };
-        settle_hour(&mut self.day, &mut self.table, terms, amounts, outputs, &mut [77; USERS])
+        let (mut quantity, mut money, mut after, mut scratch) = (self.quantity, self.money, [77; USERS], [77; USERS]);
+        let before = (self.day, self.table);
+        let outputs = Outputs { quantity: &mut quantity, money: &mut money };
+        let seen = preview_hour(&self.day, &self.table, terms, amounts, outputs, &mut after, &mut scratch);
+        assert_eq!((self.day, self.table), before);
+        let outputs = Outputs { quantity: &mut self.quantity, money: &mut self.money };
+        assert_eq!(settle_hour(&mut self.day, &mut self.table, terms, amounts, outputs, &mut [77; USERS]), seen);
+        assert_eq!((quantity, money), (self.quantity, self.money));
+        if seen.is_ok() {
+            assert_eq!(after, self.table[terms.zone as usize * ZONE_PLACES..][..USERS]);
+            assert_eq!(scratch, [0; USERS]);
+        }
+        seen
     }
 
     fn close(&mut self, zone: i64, excess_price: i64, shortfall_price: i64) -> Result<Sums, Cause> {

@@ -5,7 +5,7 @@
 
 ghost use Rattle.std.specs.Prelude.{◌≡◌};
 ghost use Rattle.rules.specs.Hours.{hour_given, closing_given};
-ghost use Rattle.rules.specs.Causes.{zone_open, open_cause, thresholds_cause, hour_cause, closing_cause};
+ghost use Rattle.rules.specs.Causes.{zone_open, open_cause, thresholds_cause, hour_cause, preview_cause, closing_cause};
 ghost use Rattle.causes.specs.Steps.{filled_long, lent_long, hour_lists_long, closing_lists_long};
 
 use rules::{Amounts, Cause, ClosingTerms, Day, HourTerms, Outputs, require};
@@ -76,6 +76,8 @@ fn hour_lists_long(
     table.len() == 256 && lent_long(users, amounts, outputs, scratch)
 }
 
+// Inlined, since a preview calls it too: else a refusal of an hour by 2 to 6 would take 5 ns more.
+#[inline(always)]
 #[tactic(auto, using(crate::proofs::Lengths::hour_tabled), unfolding(rules::specs::Causes::hour_cause, rules::specs::Causes::hour_long))]
 pub fn hour_cause(
     day: Day,
@@ -98,6 +100,30 @@ pub fn hour_cause(
     require(places::table_fit(day, table), Cause::Table)?;
     require(ranges::terms_fit(terms), Cause::Terms)?;
     amounts::zone_amounts_cause(terms.zone, table, amounts)
+}
+
+// ---- a preview of an hour
+
+// Cause 2, since the record says how long the list of the positions after has to be; cause 3 for that list; then the causes of the hour, from 2 on.
+#[tactic(auto, unfolding(rules::specs::Causes::preview_cause, rules::specs::Causes::list_long, rules::specs::Days::users))]
+pub fn preview_cause(
+    day: Day,
+    table: &[i64],
+    terms: HourTerms,
+    amounts: &Amounts,
+    outputs: &Outputs,
+    after: &[i64],
+    scratch: &[u64],
+) -> Result<(), Cause>
+    ensures { result ≡ preview_cause day table.now
+        (hour_given terms amounts.now
+        outputs.now scratch.now)
+        after.now }
+{
+    require(day_record::day_fit(day), Cause::Record)?;
+    let users = integers::natural(day.users);
+    require(after.len() == users, Cause::Lengths)?;
+    hour_cause(day, table, terms, amounts, outputs, scratch)
 }
 
 // ---- a closing

@@ -5,8 +5,8 @@
 // does not get from the proof to the contract, or it does without (`CauseGiven`).
 //
 // That the calls do what the definitions say is each call's own contract, an equation for the answer and for every lent area, refused or accepted: `open`, `default_thresholds`,
-// `settle_hour` and `close_zone` in the crate `gas_day`, `read_hour_file` in `allocation_file`, `write_hour_file` in `allocation_writer`. A theorem below holds of the calls because it
-// holds of those definitions.
+// `settle_hour`, `preview_hour` and `close_zone` in the crate `gas_day`, `read_hour_file` in `allocation_file`, `write_hour_file` in `allocation_writer`. A theorem below holds of the
+// calls because it holds of those definitions.
 //
 // Words in quotation marks are the papers': of the demands, or of document 01 or 02 where a line says so.
 
@@ -14,13 +14,13 @@
 
 ghost use Rattle.largest_remainder.specs.Guarantees.{AddsUp, Accurate, NoMoreThanSize};
 ghost use Rattle.apportionment.specs.Guarantees.{EndsWithTheLast};
-ghost use Rattle.rules.specs.Guarantees.{BeginsAtZero, LengthKept, AcceptedIfFit, Conservation, ClosedIsZero, ClosedIsMarked, Accuracy, OutcomeByThresholds, MarksAreCausers};
+ghost use Rattle.rules.specs.Guarantees.{BeginsAtZero, LengthKept, AcceptedIfFit, Conservation, ClosedIsZero, ClosedIsMarked, Accuracy, OutcomeByThresholds, MarksAreCausers, AsSettlingACopy};
 ghost use Rattle.file_guarantees.specs.Guarantees.{ReadIfObeyed, FirstFaultDecides, AcceptedObeys, CauseGiven, SmallNumbers, TwoForms, PointsInAmounts};
 ghost use Rattle.file_guarantees.specs.Examples.{ExamplesComputed, CaseA};
 ghost use Rattle.writer_guarantees.specs.Guarantees.{WrittenIfFit, CauseOfThree, EnoughBytes, RoundTrip, WrittenIsRead, OneText};
 ghost use Rattle.writer_guarantees.specs.Examples.{CaseAWritten, TextsComputed, CausesComputed};
 ghost use Rattle.record_c.specs.Guarantees.{RecordKept};
-ghost use Rattle.flat.specs.Guarantees.{OddMarkRefused};
+ghost use Rattle.flat.specs.Guarantees.{OddMarkRefused, PreviewKeepsRecord};
 ghost use Rattle.text.specs.Examples.{DecimalsShown};
 ghost use Rattle.report.specs.Examples.{CaseAShown, RefusalShown};
 ghost use Rattle.cases.specs.Cases.{AllFigures};
@@ -150,6 +150,15 @@ pub fn an_accepted_hour_is_accurate()
     ensures { Accuracy }
 {}
 
+// ---- a preview of an hour
+
+// Document 02: "The answer and lists are those that settling a copy would give, and the positions after go to a list of exactly the user count. The same causes apply in the same order, and
+// cause 3 covers the new list. Scratch is as for an hour, the record comes back unchanged": with a list of the user count a preview answers and leaves, but for the record, what the hour
+// would, accepted or refused; with another it is refused by 3, or by 2.
+pub fn a_preview_is_as_settling_a_copy()
+    ensures { AsSettlingACopy }
+{}
+
 // ---- the rules of an hour, in document 01's words
 
 // Rule 2: "Above the upper threshold there is an excess: the difference. Below the lower one there is a shortfall: the difference, taken positive. At a threshold there is neither."
@@ -200,6 +209,12 @@ pub fn a_record_comes_back_from_c_as_it_went()
 #[tactic(auto, using(flat::proofs::Guarantees::odd_mark_refused))]
 pub fn a_record_with_an_odd_mark_is_refused()
     ensures { OddMarkRefused }
+{}
+
+// Document 02, of a preview: "the record comes back unchanged", through C too, accepted or refused.
+#[tactic(auto, using(flat::proofs::Guarantees::preview_keeps_record))]
+pub fn a_preview_gives_the_record_back()
+    ensures { PreviewKeepsRecord }
 {}
 
 // ---- figures

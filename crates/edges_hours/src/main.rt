@@ -1,5 +1,6 @@
-// The edges of settling an hour, one line a case: its changes of the usual call, what the answer says, and what a comparison with what was lent says. (The four lists
-// of amounts are lent as `&`: no call can change them.) The file `stdout`, with which the lines are compared, has the answers of documents 01 and 02.
+// The edges of settling an hour and of its preview, a line for each call: the changes of the usual call, what the answer says, and what a comparison with what was lent says. (The
+// four lists of amounts are lent as `&`, and so is the table to a preview: no call can change them.) The file `stdout`, with which the lines are compared, has the answers of
+// documents 01 and 02.
 
 #![tactic(auto)]
 
@@ -17,6 +18,8 @@ const LENT_QUANTITY: i64 = 71;
 const LENT_MONEY: i64 = 72;
 
 const LENT_SCRATCH: u64 = 73;
+
+const LENT_AFTER: i64 = 74;
 
 // ---- the sheet
 
@@ -81,9 +84,18 @@ impl Sheet {
         }
     }
 
+    fn amounts(&self) -> Amounts<'_> {
+        Amounts {
+            entries: self.list(rows::ENTRY, self.size(0)),
+            exits: self.list(rows::EXIT, self.size(1)),
+            titles: self.list(rows::TITLE, self.size(2)),
+            poolings: self.list(rows::POOLING, self.size(3)),
+        }
+    }
+
     // The places of a list, by its number among the call's lists.
     fn size(&self, which: usize) -> usize {
-        let one = at(self.list(rows::LIST_SIZE, 7), which);
+        let one = at(self.list(rows::LIST_SIZE, 8), which);
         if one != 0 {
             return natural(one);
         }
@@ -105,6 +117,7 @@ struct Lists {
     quantity: [i64; 129],
     money: [i64; 129],
     scratch: [u64; 129],
+    after: [i64; 129],
 }
 
 impl Lists {
@@ -118,19 +131,14 @@ impl Lists {
             quantity: [LENT_QUANTITY; 129],
             money: [LENT_MONEY; 129],
             scratch: [LENT_SCRATCH; 129],
+            after: [LENT_AFTER; 129],
         }
     }
 }
 
-// ---- the call
+// ---- the two calls
 
 fn settle(sheet: &Sheet, lists: &mut Lists) -> Result<HourDone, Refusal> {
-    let amounts = Amounts {
-        entries: sheet.list(rows::ENTRY, sheet.size(0)),
-        exits: sheet.list(rows::EXIT, sheet.size(1)),
-        titles: sheet.list(rows::TITLE, sheet.size(2)),
-        poolings: sheet.list(rows::POOLING, sheet.size(3)),
-    };
     let mut outputs = Outputs {
         quantity: lent(&mut lists.quantity, 0, sheet.size(4)),
         money: lent(&mut lists.money, 0, sheet.size(5)),
@@ -139,8 +147,24 @@ fn settle(sheet: &Sheet, lists: &mut Lists) -> Result<HourDone, Refusal> {
         sheet.day(),
         lent(&mut lists.table, 0, natural(sheet.number(rows::TABLE_SIZE))),
         sheet.terms(),
-        &amounts,
+        &sheet.amounts(),
         &mut outputs,
+        lent(&mut lists.scratch, 0, sheet.size(6)),
+    )
+}
+
+fn preview(sheet: &Sheet, lists: &mut Lists) -> Result<HourDone, Refusal> {
+    let mut outputs = Outputs {
+        quantity: lent(&mut lists.quantity, 0, sheet.size(4)),
+        money: lent(&mut lists.money, 0, sheet.size(5)),
+    };
+    gas_day::preview_hour(
+        sheet.day(),
+        first(&lists.table, natural(sheet.number(rows::TABLE_SIZE))),
+        sheet.terms(),
+        &sheet.amounts(),
+        &mut outputs,
+        lent(&mut lists.after, 0, sheet.size(7)),
         lent(&mut lists.scratch, 0, sheet.size(6)),
     )
 }
@@ -193,32 +217,37 @@ fn conserved(sheet: &Sheet, before: &[i64], quantity: &[i64], after: &[i64]) -> 
     sums::balanced(&given, &left)
 }
 
-// User 0's quantity, money and place after; and what is compared.
-fn say_lists(line: &mut Line, sheet: &Sheet, lists: &Lists) {
+// User 0's quantity, money and position after; and what is compared of all users, whose positions after are given.
+fn say_users(line: &mut Line, sheet: &Sheet, lists: &Lists, after: &[i64]) {
+    let start = places::first_place(sheet.number(rows::ZONE));
+    let before = part(sheet.table(), start, sheet.users());
+    let quantity = first(&lists.quantity, sheet.users());
+    let numbers = [lists.quantity[0], lists.money[0], at(after, 0)];
+    line.say_row(b", quantity |, money |, after |", &numbers);
+    line.say_holds(b"conserved", conserved(sheet, before, quantity, after));
+}
+
+fn say_done(line: &mut Line, done: HourDone) {
+    line.say(b": done, ");
+    line.say_day(done.day);
+    say_outcome(line, done.outcome);
+}
+
+fn say_scratch(line: &mut Line, sheet: &Sheet, lists: &Lists) {
+    let settled = first(&lists.scratch, sheet.users());
+    line.say_holds(b"scratch zero", all_are(settled, 0));
+}
+
+// Of an hour the positions after are the users' places in the table.
+fn say_settled(line: &mut Line, sheet: &Sheet, lists: &Lists) {
     let start = places::first_place(sheet.number(rows::ZONE));
     let n = sheet.users();
-    let numbers = [lists.quantity[0], lists.money[0], at(&lists.table, start)];
-    let kept = conserved(
-        sheet,
-        part(sheet.table(), start, n),
-        first(&lists.quantity, n),
-        part(&lists.table, start, n),
-    );
-    line.say_row(b", quantity |, money |, after |", &numbers);
-    line.say_holds(b"conserved", kept);
+    say_users(line, sheet, lists, part(&lists.table, start, n));
     line.say_kept(
         b"other places",
         checking::same_outside(sheet.table(), &lists.table, start, n),
     );
-}
-
-fn say_done(line: &mut Line, done: HourDone, sheet: &Sheet, lists: &Lists) {
-    line.say(b": done, ");
-    line.say_day(done.day);
-    say_outcome(line, done.outcome);
-    say_lists(line, sheet, lists);
-    let settled = first(&lists.scratch, sheet.users());
-    line.say_holds(b"scratch zero", all_are(settled, 0));
+    say_scratch(line, sheet, lists);
 }
 
 fn say_refused(line: &mut Line, refusal: Refusal, sheet: &Sheet, lists: &Lists) {
@@ -229,6 +258,20 @@ fn say_refused(line: &mut Line, refusal: Refusal, sheet: &Sheet, lists: &Lists) 
         all_are(&lists.money, LENT_MONEY),
     );
     line.say_kept(b"scratch", all_are(&lists.scratch, LENT_SCRATCH));
+}
+
+// Of a preview they have a list of their own.
+fn say_previewed(line: &mut Line, sheet: &Sheet, lists: &Lists) {
+    say_users(line, sheet, lists, first(&lists.after, sheet.users()));
+    say_scratch(line, sheet, lists);
+}
+
+fn say_not_previewed(line: &mut Line, refusal: Refusal, sheet: &Sheet, lists: &Lists) {
+    line.say_refusal(refusal, sheet.day());
+    line.say_kept(b"quantity", all_are(&lists.quantity, LENT_QUANTITY));
+    line.say_kept(b"money", all_are(&lists.money, LENT_MONEY));
+    line.say_kept(b"scratch", all_are(&lists.scratch, LENT_SCRATCH));
+    line.say_kept(b"after", all_are(&lists.after, LENT_AFTER));
 }
 
 // ---- the cases
@@ -244,7 +287,6 @@ fn say_change(line: &mut Line, place: usize, number: i64) {
 }
 
 fn say_changes(line: &mut Line, changes: &[(usize, i64)]) {
-    line.say(b"hour");
     for (place, number) in changes {
         say_change(line, *place, *number);
     }
@@ -255,42 +297,78 @@ fn hour(rt: &impl Print, changes: &[(usize, i64)]) -> io::Result<()> {
     let mut lists = Lists::before(&sheet);
     let answer = settle(&sheet, &mut lists);
     let mut line = Line::new();
+    line.say(b"hour");
     say_changes(&mut line, changes);
     match answer {
         Err(refusal) => say_refused(&mut line, refusal, &sheet, &lists),
-        Ok(done) => say_done(&mut line, done, &sheet, &lists),
+        Ok(done) => {
+            say_done(&mut line, done);
+            say_settled(&mut line, &sheet, &lists);
+        }
     }
     line.say_byte(b'\n');
     rt.write_all(line.as_bytes())
 }
 
+fn preview_of(rt: &impl Print, changes: &[(usize, i64)]) -> io::Result<()> {
+    let sheet = Sheet::of(changes);
+    let mut lists = Lists::before(&sheet);
+    let answer = preview(&sheet, &mut lists);
+    let mut line = Line::new();
+    line.say(b"preview");
+    say_changes(&mut line, changes);
+    match answer {
+        Err(refusal) => say_not_previewed(&mut line, refusal, &sheet, &lists),
+        Ok(done) => {
+            say_done(&mut line, done);
+            say_previewed(&mut line, &sheet, &lists);
+        }
+    }
+    line.say_byte(b'\n');
+    rt.write_all(line.as_bytes())
+}
+
+fn both(rt: &impl Print, changes: &[(usize, i64)]) -> io::Result<()> {
+    hour(rt, changes)?;
+    preview_of(rt, changes)
+}
+
 // The usual call with one change, by each of the numbers.
 fn each(rt: &impl Print, kind: usize, numbers: &[i64]) -> io::Result<()> {
     for number in numbers {
-        hour(rt, &[(kind, *number)])?;
+        both(rt, &[(kind, *number)])?;
     }
     Ok(())
 }
 
-fn hours_alone(rt: &impl Print) -> io::Result<()> {
+fn alone(rt: &impl Print) -> io::Result<()> {
     for (kind, numbers) in rows::ALONE {
         each(rt, kind, numbers)?;
     }
     Ok(())
 }
 
-fn hours_together(rt: &impl Print, cases: &[rows::Changes]) -> io::Result<()> {
+fn together(rt: &impl Print, cases: &[rows::Changes]) -> io::Result<()> {
     for changes in cases {
-        hour(rt, changes)?;
+        both(rt, changes)?;
+    }
+    Ok(())
+}
+
+// The list of the positions after, which no hour has.
+fn previews(rt: &impl Print) -> io::Result<()> {
+    for changes in rows::AFTERS {
+        preview_of(rt, changes)?;
     }
     Ok(())
 }
 
 fn main(rt: HostRuntime) -> io::Result<()> {
-    // the usual hour
-    hour(&rt, &[])?;
-    hours_alone(&rt)?;
-    hours_together(&rt, &rows::EARLY)?;
-    hours_together(&rt, &rows::LATE)?;
-    hours_together(&rt, &rows::LENGTHS)
+    // the usual call
+    both(&rt, &[])?;
+    alone(&rt)?;
+    together(&rt, &rows::EARLY)?;
+    together(&rt, &rows::LATE)?;
+    together(&rt, &rows::LENGTHS)?;
+    previews(&rt)
 }

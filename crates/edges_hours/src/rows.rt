@@ -1,4 +1,4 @@
-// The cases of an hour. The numbers of a call stand in one list, its sheet, with 300 places for each kind of number, of which most kinds use the first alone. A case
+// The cases of an hour, and of its preview. The numbers of a call stand in one list, its sheet, with 300 places for each kind of number, of which most kinds use the first alone. A case
 // changes some numbers of the usual call: a change is a kind, with a place added to it, and the number that stands there. Kinds are places and no enum, since a place is added: `TABLE + 128`.
 use ranges::limits::{Entry, Exit, Kind, Pooling, Position, Price, Threshold, Title};
 
@@ -35,7 +35,7 @@ pub const TABLE_SIZE: usize = 3900;
 // The places of every list; 0: as many as users.
 pub const LISTS_SIZE: usize = 4200;
 
-// Those of one list, by its number among the call's lists: entry, exit, title, pooling, quantity, money, scratch.
+// Those of one list, by its number among the call's lists: entry, exit, title, pooling, quantity, money, scratch, and a preview's positions after.
 pub const LIST_SIZE: usize = 4500;
 
 pub const TABLE: usize = 4800;
@@ -264,4 +264,16 @@ pub const LENGTHS: [Changes; 38] = [
     &[(LENGTH, 22), (TABLE_SIZE, 255)],
     &[(LENGTH, 22), (H_HOURS, 21), (HOUR, 22)],
     &[(LENGTH, 26), (H_HOURS, 25), (HOUR, 26)],
+];
+
+// A preview's list of positions after: shorter and longer than there are users, and against the causes before and after 3.
+pub const AFTERS: [Changes; 8] = [
+    &[(LIST_SIZE + 7, 2)],
+    &[(LIST_SIZE + 7, 4)],
+    &[(LIST_SIZE + 7, 1), (USERS, 128)],
+    &[(LIST_SIZE + 7, 129), (USERS, 128)],
+    &[(LIST_SIZE + 7, 2), (LENGTH, 22)],
+    &[(LIST_SIZE + 7, 2), (USERS, 0)],
+    &[(LIST_SIZE + 7, 2), (ZONE, 2)],
+    &[(LIST_SIZE + 7, 4), (H_HOURS, 24), (H_CLOSED, 1), (TABLE, 0)],
 ];

@@ -36,10 +36,10 @@ module _ (d : Day) (t : List ℤ) (k : HourTerms) (a : Amounts) (o : Outputs) (s
   not_done is e = record { answer = rw (e, is) refl; table = rw is refl; quantity = rw is refl; money = rw is refl; scratch = rw is refl }
 
   module _ (none : hour_cause d t g ≡ Ok tt) where
-    lengths : HourLengths (users d) g
+    pub lengths : HourLengths (users d) g
     lengths = hour_lengths d t g (hour_fit_lem d t g none).lengths
 
-    positions_before : before d t g ≡ befores (part k.zone t) a
+    pub positions_before : before d t g ≡ befores (part k.zone t) a
     positions_before = before_is d t k a o s lengths.entries
 
     pub day_fits_lem : day_fit d ≡ true

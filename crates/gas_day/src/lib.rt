@@ -6,14 +6,14 @@
 ghost use Rattle.std.specs.Prelude.{◌≡◌};
 ghost use Rattle.rules.specs.Hours.{hour_given, closing_given, Same};
 ghost use Rattle.rules.specs.Answers.{with_day, thresholds_answer};
-ghost use Rattle.rules.specs.Promises.{OpenPromise, HourPromise, ClosingPromise};
+ghost use Rattle.rules.specs.Promises.{OpenPromise, HourPromise, PreviewPromise, ClosingPromise};
 
 use rules::{
     Amounts, Cause, ClosingDone, ClosingTerms, Day, HourDone, HourTerms, Outputs, Refusal,
     Thresholds,
 };
 
-// What a refusal of an hour or a closing returns: "number, same record".
+// What a refusal of an hour, a preview or a closing returns: "number, same record".
 fn refused(cause: Result<(), Cause>, day: Day) -> Result<(), Refusal>
     ensures { result ≡ with_day day cause }
 {
@@ -59,6 +59,27 @@ pub fn settle_hour(
     let outcome = settlement::settle_table(table, amounts, terms, outputs, scratch);
     let next = day_record::day_after_hour(terms.zone, day);
     Ok(HourDone { day: next, outcome })
+}
+
+// Shows an hour of a zone before it is settled: causes 2 to 11. The positions after go to a list of their own, and the record comes back unchanged.
+pub fn preview_hour(
+    day: Day,
+    table: &[i64],
+    terms: HourTerms,
+    amounts: &Amounts,
+    outputs: &mut Outputs,
+    after: &mut [i64],
+    scratch: &mut [u64],
+) -> Result<HourDone, Refusal>
+    ensures same { Same outputs.old outputs.new }
+    ensures previewed { PreviewPromise day table.now
+        (hour_given terms amounts.now outputs.old scratch.old) after.old
+        outputs.new.quantity.now outputs.new.money.now after.new scratch.new result }
+{
+    let cause = causes::preview_cause(day, table, terms, amounts, outputs, after, scratch);
+    refused(cause, day)?;
+    let outcome = settlement::settle_copy(table, amounts, terms, outputs, after, scratch);
+    Ok(HourDone { day, outcome })
 }
 
 // Closes a zone after its last hour: causes 2 to 8.

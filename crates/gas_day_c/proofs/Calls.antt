@@ -9,7 +9,7 @@ use Rattle.rules.specs.declared.HourDone.{HourDone}
 use Rattle.rules.specs.declared.ClosingDone.{ClosingDone}
 use Rattle.rules.specs.declared.Refusal.{Refusal}
 use Rattle.rules.specs.Hours.{Hour, Closing}
-use Rattle.rules.specs.Promises.{HourPromise, ClosingPromise}
+use Rattle.rules.specs.Promises.{HourPromise, PreviewPromise, ClosingPromise}
 use Rattle.allocation_writer.specs.Writer.{Content, WriteHour}
 use Rattle.allocation_writer.specs.declared.WriteCause.{WriteCause}
 use Rattle.record_c.specs.declared.DayC.{DayC}
@@ -18,16 +18,22 @@ use Rattle.flat.specs.declared.ClosingC.{ClosingC}
 use Rattle.flat.specs.declared.WrittenC.{WrittenC}
 use Rattle.record_c.specs.Records.{day_of}
 use Rattle.flat.specs.Flat.{flat_hour, flat_closing, flat_written}
-use Rattle.gas_day_c.specs.Promises.{HourForC, ClosingForC, WriteForC}
+use Rattle.gas_day_c.specs.Promises.{HourForC, PreviewForC, ClosingForC, WriteForC}
 
-module _ {d : DayC} {e : Day} {t : List ℤ} {t' q' m' : List ℤ} (is : e ≡ day_of d) where
-  pub hour_for_c : {g : Hour} {s' : List ℕ} {a : Result HourDone Refusal} {r : HourC} → HourPromise e t g t' q' m' s' a → r ≡ flat_hour d a
+module _ {d : DayC} {e : Day} {t q' m' : List ℤ} (is : e ≡ day_of d) where
+  pub hour_for_c : {g : Hour} {t' : List ℤ} {s' : List ℕ} {a : Result HourDone Refusal} {r : HourC} → HourPromise e t g t' q' m' s' a → r ≡ flat_hour d a
       → HourForC d t g t' q' m' s' r
   hour_for_c p f =
       let p = rw is at p in
       record { answer = f ∙ ap (flat_hour d) p.answer; table = p.table; quantity = p.quantity; money = p.money; scratch = p.scratch }
 
-  pub closing_for_c : {g : Closing} {a : Result ClosingDone Refusal} {r : ClosingC} → ClosingPromise e t g t' q' m' a → r ≡ flat_closing d a
+  pub preview_for_c : {g : Hour} {lent a' : List ℤ} {s' : List ℕ} {a : Result HourDone Refusal} {r : HourC} → PreviewPromise e t g lent q' m' a' s' a
+      → r ≡ flat_hour d a → PreviewForC d t g lent q' m' a' s' r
+  preview_for_c p f =
+      let p = rw is at p in
+      record { answer = f ∙ ap (flat_hour d) p.answer; quantity = p.quantity; money = p.money; after = p.after; scratch = p.scratch }
+
+  pub closing_for_c : {g : Closing} {t' : List ℤ} {a : Result ClosingDone Refusal} {r : ClosingC} → ClosingPromise e t g t' q' m' a → r ≡ flat_closing d a
       → ClosingForC d t g t' q' m' r
   closing_for_c p f =
       let p = rw is at p in

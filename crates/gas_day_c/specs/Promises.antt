@@ -2,6 +2,7 @@
 use Rattle.std.specs.Prelude.{◌≡◌, List, ℕ, ℤ}
 use Rattle.rules.specs.Hours.{Hour, Closing}
 use Rattle.rules.specs.Answers.{open_answer, open_table, hour_answer, hour_table, hour_quantity, hour_money, hour_scratch}
+use Rattle.rules.specs.Answers.{preview_answer, preview_quantity, preview_money, preview_after, preview_scratch}
 use Rattle.rules.specs.Answers.{closing_answer, closing_table, closing_quantity, closing_money}
 use Rattle.allocation_file.specs.File.{outcome, answer_of, list_of}
 use Rattle.allocation_writer.specs.Writer.{Content, write_answer, written_file}
@@ -28,6 +29,13 @@ pub record HourForC (d : DayC) (t : List ℤ) (g : Hour) (t' q' m' : List ℤ) (
   pub quantity : q' ≡ hour_quantity (day_of d) t g
   pub money : m' ≡ hour_money (day_of d) t g
   pub scratch : s' ≡ hour_scratch (day_of d) t g
+
+pub record PreviewForC (d : DayC) (t : List ℤ) (g : Hour) (lent q' m' a' : List ℤ) (s' : List ℕ) (r : HourC) : Type 0 where
+  pub answer : r ≡ flat_hour d (preview_answer (day_of d) t g lent)
+  pub quantity : q' ≡ preview_quantity (day_of d) t g lent
+  pub money : m' ≡ preview_money (day_of d) t g lent
+  pub after : a' ≡ preview_after (day_of d) t g lent
+  pub scratch : s' ≡ preview_scratch (day_of d) t g lent
 
 pub record ClosingForC (d : DayC) (t : List ℤ) (g : Closing) (t' q' m' : List ℤ) (r : ClosingC) : Type 0 where
   pub answer : r ≡ flat_closing d (closing_answer (day_of d) t g)

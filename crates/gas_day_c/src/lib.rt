@@ -8,7 +8,7 @@ ghost use Rattle.rules.specs.Hours.{hour_listed, closing_listed};
 ghost use Rattle.rules.specs.Answers.{thresholds_answer};
 ghost use Rattle.flat.specs.Flat.{flat_thresholds};
 ghost use Rattle.allocation_writer.specs.Writer.{content_listed};
-ghost use Rattle.gas_day_c.specs.Promises.{version, OpenForC, HourForC, ClosingForC, FileForC, WriteForC};
+ghost use Rattle.gas_day_c.specs.Promises.{version, OpenForC, HourForC, PreviewForC, ClosingForC, FileForC, WriteForC};
 
 use allocation_row::Lists;
 use flat::{ClosingC, FileC, HourC, OpenC, ThresholdsC, WrittenC};
@@ -72,6 +72,47 @@ pub extern "C" fn gas_day_settle_hour(
     };
     let mut outputs = Outputs { quantity, money };
     let answer = gas_day::settle_hour(day.into(), table, terms, &amounts, &mut outputs, scratch);
+    HourC::of(day, answer)
+}
+
+// ---- a preview of an hour
+
+#[unsafe(no_mangle)]
+pub extern "C" fn gas_day_preview_hour(
+    day: DayC,
+    table: &[i64],
+    terms: HourTerms,
+    entry: &[i64],
+    exit: &[i64],
+    title: &[i64],
+    pooling: &[i64],
+    quantity: &mut [i64],
+    money: &mut [i64],
+    after: &mut [i64],
+    scratch: &mut [u64],
+) -> HourC
+    ensures { PreviewForC day table.now
+        (hour_listed terms
+        entry.now exit.now title.now pooling.now
+        quantity.old money.old scratch.old)
+        after.old quantity.new money.new after.new scratch.new result }
+{
+    let amounts = Amounts {
+        entries: entry,
+        exits: exit,
+        titles: title,
+        poolings: pooling,
+    };
+    let mut outputs = Outputs { quantity, money };
+    let answer = gas_day::preview_hour(
+        day.into(),
+        table,
+        terms,
+        &amounts,
+        &mut outputs,
+        after,
+        scratch,
+    );
     HourC::of(day, answer)
 }
 

@@ -22,13 +22,14 @@ use Rattle.rules.specs.Market.{Imbalance, within, excess, shortfall, imbalance, 
 use Rattle.rules.specs.Causes.{hour_cause, before_fit}
 use Rattle.rules.specs.Answers.{hour_answer, hour_imbalance, hour_quantity, number_by}
 use Rattle.rules.specs.History.{opened, first_sum, closes}
-use Rattle.rules.specs.Guarantees.{BeginsAtZero, LengthKept, AcceptedIfFit, Conservation, ClosedIsZero, ClosedIsMarked, Accuracy, OutcomeByThresholds, MarksAreCausers}
+use Rattle.rules.specs.Guarantees.{BeginsAtZero, LengthKept, AcceptedIfFit, Conservation, ClosedIsZero, ClosedIsMarked, Accuracy, OutcomeByThresholds, MarksAreCausers, AsSettlingACopy}
 use Rattle.rules.proofs.Refusing.{by_none, with_day_none}
 use Rattle.rules.proofs.Zones.{zone_of_lem}
 use Rattle.rules.proofs.Accepted.{length_of, hour_fit_lem, fit_hour, hour_sound, hour_number_lem, hour_none, closing_fit, fit_closing, closing_number_lem, closing_none, thresholds_sound}
 use Rattle.rules.proofs.Marking.{marked_at, marks_number}
 use Rattle.rules.proofs.Settling.{view, settles}
 use Rattle.rules.proofs.Telling.{tells}
+use Rattle.rules.proofs.Previewing.{as_a_copy, turned_away}
 use Rattle.rules.proofs.Conserving.{length_before, positions_left, length_run, balance, opened_by, open_users, open_length, open_table_lem, open_zero, new_hours, new_open, marked-run, closed_zero}
 
 pub begins_at_zero : BeginsAtZero
@@ -112,3 +113,6 @@ marks_are_causers d t g d' side m e =
     let (k, q) = done_by d t g d' (Settled side m) e in
     let few : length (causers i ps) ≤ 128 = omega (arith, length-map ps (caused i), length_before d t g, (hour_sound d t g k).few) in
     rw (marks_are i ps side m q) ((λ p h. marked_at (causers i ps) few p h ∙ causer_at i ps p), marks_number (causers i ps) few ∙ count_map (λ b. b) (caused i) ps)
+
+pub as_settling_a_copy : AsSettlingACopy
+as_settling_a_copy d t g lent = (as_a_copy d t g lent, turned_away d t g lent)

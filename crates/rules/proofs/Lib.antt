@@ -7,4 +7,5 @@ pub mod Marking
 pub mod Settling
 pub mod Telling
 pub mod Conserving
+mod Previewing
 pub mod Guarantees

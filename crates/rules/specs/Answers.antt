@@ -11,9 +11,9 @@ use Rattle.rules.specs.Days.{new_day, day_after_hour, day_after_closing, with_pa
 use Rattle.rules.specs.Thresholds.{upper_default, lower_default}
 use Rattle.rules.specs.Hours.{Hour, Closing, before, standing}
 use Rattle.rules.specs.Market.{Imbalance, imbalance, quantities, after, moneys, outcome, sold, bought}
-use Rattle.rules.specs.Causes.{open_cause, thresholds_cause, hour_cause, closing_cause}
+use Rattle.rules.specs.Causes.{open_cause, thresholds_cause, hour_cause, preview_cause, closing_cause}
 
--- A refusal of an hour or a closing returns its cause and the record as it was given.
+-- A refusal of an hour, a preview or a closing returns its cause and the record as it was given.
 abbrev pub with_day : Day → Result Unit Cause → Result Unit Refusal
 with_day d (Ok u) = Ok u
 with_day d (Err k) = Err (record { cause = k; day = d })
@@ -58,6 +58,31 @@ module _ (d : Day) (t : List ℤ) (g : Hour) where
   -- "The accepted call sets its scratch (one unsigned 64-bit place per user) to zero."
   unfoldable pub hour_scratch : List ℕ
   hour_scratch = by_cause (hour_cause d t g) (replicate (length g.scratch) 0) g.scratch
+
+-- ---- a preview of an hour; document 02: "quantities, money and positions after it, with the table only lent for reading"
+module _ (d : Day) (t : List ℤ) (g : Hour) (lent : List ℤ) where
+  -- "the record comes back unchanged"
+  unfoldable pub preview_answer : Result HourDone Refusal
+  preview_answer =
+      with_day d (preview_cause d t g lent)
+      then Ok (record { day = d; outcome = outcome (hour_imbalance d t g) (before d t g) })
+
+  unfoldable pub preview_quantity : List ℤ
+  preview_quantity = by_cause (preview_cause d t g lent) (quantities (hour_imbalance d t g) (before d t g)) g.quantity
+
+  unfoldable pub preview_money : List ℤ
+  preview_money =
+      by_cause (preview_cause d t g lent)
+      (moneys g.terms.excess_price g.terms.shortfall_price (quantities (hour_imbalance d t g) (before d t g)))
+      g.money
+
+  -- "the positions after go to a list of exactly the user count"
+  unfoldable pub preview_after : List ℤ
+  preview_after = by_cause (preview_cause d t g lent) (after (hour_imbalance d t g) (before d t g)) lent
+
+  -- "Scratch is as for an hour"
+  unfoldable pub preview_scratch : List ℕ
+  preview_scratch = by_cause (preview_cause d t g lent) (replicate (length g.scratch) 0) g.scratch
 
 -- ---- a closing
 module _ (d : Day) (t : List ℤ) (g : Closing) where

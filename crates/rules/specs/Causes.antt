@@ -115,6 +115,14 @@ hour_cause d t g =
     then unless (pooling_adds g) cause.Pooling
     then unless (before_fit d t g) cause.Positions
 
+-- a preview of an hour, with a list lent for the positions after; document 02: "The same causes apply in the same order, and cause 3 covers the new list." (2 stands before, since the
+-- record says how many users there are.)
+unfoldable pub preview_cause : Day → List ℤ → Hour → List ℤ → Result Unit Cause
+preview_cause d t g lent =
+    unless (day_fit d) cause.Record
+    then unless (list_long d lent) cause.Lengths
+    then hour_cause d t g
+
 -- "closing 2 to 8"
 unfoldable pub closing_cause : Day → List ℤ → Closing → Result Unit Cause
 closing_cause d t g =

@@ -17,10 +17,10 @@ use Rattle.rules.specs.Market.{sold, bought}
 use Rattle.rules.specs.Refusals.{by_cause}
 use Rattle.rules.specs.Causes.{zone_day_fit, day_fit, table_long, list_long, scratch_long, hour_long, closing_long, zone_open}
 use Rattle.rules.specs.Causes.{hour_next, all_done, positions_fit, beyond_zero, idle_zero, table_fit, prices_fit, terms_fit}
-use Rattle.rules.specs.Causes.{amounts_fit, pooling_adds, before_fit, open_cause, thresholds_cause, hour_cause, closing_cause}
+use Rattle.rules.specs.Causes.{amounts_fit, pooling_adds, before_fit, open_cause, thresholds_cause, hour_cause, preview_cause, closing_cause}
 use Rattle.rules.specs.Answers.{open_answer, open_table, thresholds_answer, hour_imbalance, hour_answer, hour_table, hour_quantity, hour_money}
-use Rattle.rules.specs.Answers.{hour_scratch, closing_answer, closing_table, closing_quantity, closing_money, open_number, thresholds_number, hour_number}
-use Rattle.rules.specs.Answers.{hour_day, closing_number, closing_day}
+use Rattle.rules.specs.Answers.{hour_scratch, preview_answer, preview_quantity, preview_money, preview_after, preview_scratch, closing_answer, closing_table}
+use Rattle.rules.specs.Answers.{closing_quantity, closing_money, open_number, thresholds_number, hour_number, hour_day, closing_number, closing_day}
 use Rattle.rules.specs.History.{opened, step, run, hour_accepted, closing_accepted, adds_first, adds_second, first_sum}
 use Rattle.rules.specs.History.{second_sum, closes_now, closes}
 use Rattle.rules.specs.Guarantees.{marked}
@@ -43,10 +43,10 @@ unfolding
     by_cause
     zone_day_fit day_fit table_long list_long scratch_long hour_long closing_long zone_open
     hour_next all_done positions_fit beyond_zero idle_zero table_fit prices_fit terms_fit
-    amounts_fit pooling_adds before_fit open_cause thresholds_cause hour_cause closing_cause
+    amounts_fit pooling_adds before_fit open_cause thresholds_cause hour_cause preview_cause closing_cause
     open_answer open_table thresholds_answer hour_imbalance hour_answer hour_table hour_quantity hour_money
-    hour_scratch closing_answer closing_table closing_quantity closing_money open_number thresholds_number hour_number
-    hour_day closing_number closing_day
+    hour_scratch preview_answer preview_quantity preview_money preview_after preview_scratch closing_answer closing_table
+    closing_quantity closing_money open_number thresholds_number hour_number hour_day closing_number closing_day
     opened step run hour_accepted closing_accepted adds_first adds_second first_sum
     second_sum closes_now closes
     marked

@@ -1,9 +1,12 @@
--- What is proved of the definitions, for every input: the opening, demands 2 and 3, and rules 2 and 3. Statements only; the proofs are in proofs/Guarantees.antt, and the crate
+-- What is proved of the definitions, for every input: the opening, demands 2 and 3, rules 2 and 3, and a preview. Statements only; the proofs are in proofs/Guarantees.antt, and the crate
 -- `certificate` asks for each. Assumes nothing.
-use Rattle.std.specs.Prelude.{◌≡◌, Bool, true, false, cond, List, Ok, map, ◌↔◌, ◌⊎◌, ℕ, ◌+◌, ◌-◌, ◌*◌, ◌/◌, ◌%◌, ◌^◌, ◌<◌, eqb, ltb, ℤ, pos, nat_abs, ◌+ℤ◌, ◌-ℤ◌, length, get_or, take, replicate, ◌≤ℤ◌, ◌<ℤ◌}
+use Rattle.std.specs.Prelude.{◌≡◌, Bool, true, false, cond, List, Result, Ok, Err, map, ◌↔◌, ◌⊎◌, ℕ, ◌+◌, ◌-◌, ◌*◌, ◌/◌, ◌%◌, ◌^◌, ◌<◌, eqb, ltb, ℤ, pos, nat_abs, ◌+ℤ◌, ◌-ℤ◌, length, get_or, take, replicate, ◌≤ℤ◌, ◌<ℤ◌}
 use Rattle.integers.specs.Ranges.{natural}
 use Rattle.integers.specs.Lists.{sum, sum_ℤ, count}
+use Rattle.rules.specs.declared.Cause.TheVariants as cause
 use Rattle.rules.specs.declared.Day.{Day}
+use Rattle.rules.specs.declared.HourDone.{HourDone}
+use Rattle.rules.specs.declared.Refusal.{Refusal}
 use Rattle.rules.specs.declared.Marks.{Marks}
 use Rattle.rules.specs.declared.Side.{Side}
 use Rattle.rules.specs.declared.Side.TheVariants.{Excess, Shortfall}
@@ -12,9 +15,10 @@ use Rattle.rules.specs.declared.Outcome.TheVariants.{Within, Settled}
 use Rattle.rules.specs.Limits.{zone_fit, position_fit}
 use Rattle.rules.specs.Days.{users, hours_of_day, hours_done, is_closed, part, place}
 use Rattle.rules.specs.Hours.{Hour, Closing, before}
-use Rattle.rules.specs.Causes.{day_fit, hour_long, closing_long, zone_open, hour_next, all_done, table_fit, prices_fit, terms_fit, amounts_fit, pooling_adds, before_fit}
+use Rattle.rules.specs.Refusals.{by_cause}
+use Rattle.rules.specs.Causes.{day_fit, list_long, hour_long, closing_long, zone_open, hour_next, all_done, table_fit, prices_fit, terms_fit, amounts_fit, pooling_adds, before_fit, hour_cause}
 use Rattle.rules.specs.Market.{Imbalance, total, caused, sizes, settled_sizes, signed}
-use Rattle.rules.specs.Answers.{open_answer, open_table, hour_answer, hour_number, hour_table, hour_quantity, hour_imbalance, closing_answer, closing_number}
+use Rattle.rules.specs.Answers.{open_answer, open_table, hour_answer, hour_number, hour_table, hour_quantity, hour_money, hour_scratch, hour_imbalance, preview_answer, preview_quantity, preview_money, preview_after, preview_scratch, closing_answer, closing_number}
 use Rattle.rules.specs.History.{State, Call, opened, run, first_sum, second_sum, closes}
 
 -- ---- the opening: "The Gas Day shall be shown to begin at zero, not supposed to."
@@ -148,3 +152,34 @@ MarksAreCausers =
     → hour_answer d t g ≡ Ok (record { day = d'; outcome = Settled side m })
     → ((p : ℕ) → p < 128 → marked m p ≡ caused (hour_imbalance d t g) (get_or (before d t g) p (pos 0)))
     × (m.number ≡ count (caused (hour_imbalance d t g)) (before d t g))
+
+-- ---- a preview; document 02: "The answer and lists are those that settling a copy would give, and the positions after go to a list of exactly the user count. The same causes apply in
+-- the same order, and cause 3 covers the new list. Scratch is as for an hour, the record comes back unchanged"
+
+-- the answer of an hour with the record that it was given
+abbrev pub with_record : Day → Result HourDone Refusal → Result HourDone Refusal
+with_record d (Ok done) = Ok (record { day = d; outcome = done.outcome })
+with_record d (Err refusal) = Err refusal
+
+-- With a list of the user count: the hour's answer, accepted or refused, with the record that was given, and what the hour leaves of its lists and scratch; where the hour is accepted, the
+-- users' places of its zone in the table that it leaves, and else the list as it was lent.
+pub record AsACopy (d : Day) (t : List ℤ) (g : Hour) (lent : List ℤ) : Type 0 where
+  pub answer : preview_answer d t g lent ≡ with_record d (hour_answer d t g)
+  pub quantity : preview_quantity d t g lent ≡ hour_quantity d t g
+  pub money : preview_money d t g lent ≡ hour_money d t g
+  pub scratch : preview_scratch d t g lent ≡ hour_scratch d t g
+  pub after : preview_after d t g lent ≡ by_cause (hour_cause d t g) (take (users d) (part g.terms.zone (hour_table d t g))) lent
+
+-- With a list of another length: refused, by 3 unless 2 applies, which comes before it; and everything is as it was lent.
+pub record TurnedAway (d : Day) (t : List ℤ) (g : Hour) (lent : List ℤ) : Type 0 where
+  pub by_2 : day_fit d ≡ false → preview_answer d t g lent ≡ Err (record { cause = cause.Record; day = d })
+  pub by_3 : day_fit d ≡ true → preview_answer d t g lent ≡ Err (record { cause = cause.Lengths; day = d })
+  pub quantity : preview_quantity d t g lent ≡ g.quantity
+  pub money : preview_money d t g lent ≡ g.money
+  pub scratch : preview_scratch d t g lent ≡ g.scratch
+  pub after : preview_after d t g lent ≡ lent
+
+abbrev pub AsSettlingACopy : Type 0
+AsSettlingACopy =
+    (d : Day) (t : List ℤ) (g : Hour) (lent : List ℤ)
+    → (list_long d lent ≡ true → AsACopy d t g lent) × (list_long d lent ≡ false → TurnedAway d t g lent)

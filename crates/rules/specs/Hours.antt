@@ -8,7 +8,7 @@ use Rattle.rules.specs.declared.HourTerms.{HourTerms}
 use Rattle.rules.specs.declared.ClosingTerms.{ClosingTerms}
 use Rattle.rules.specs.Days.{users, part, place}
 
--- an hour: its terms, the four amounts of each user, and the lists and the scratch as they are lent
+-- an hour, to be settled or previewed: its terms, the four amounts of each user, and the lists and the scratch as they are lent
 pub record Hour : Type 0 where
   pub terms : HourTerms
   pub entry : List ℤ

@@ -118,7 +118,7 @@ pub struct Amounts<'a> {
     pub poolings: &'a [i64],
 }
 
-// The lists that an hour or a closing fills, a number for each user: what it sells, and what it is paid.
+// The lists that an hour, a preview or a closing fills, a number for each user: what it sells, and what it is paid.
 #[derive(Drop)]
 pub struct Outputs<'a> {
     pub quantity: &'a mut [i64],

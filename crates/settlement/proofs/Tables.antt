@@ -1,12 +1,12 @@
 -- What the zone's and the table's settlement have to show: the users' places are the first of the part, and the part is the zone's. Assumes nothing.
 use mathlib.Core.Path.{◌≡◌, ap, ◌∙◌}
 use mathlib.Core.Bool.{true, false}
-use mathlib.Core.List.{List, ◌++◌}
-use Prim.Native.Nat.{ℕ}
+use mathlib.Core.List.{List, [], ◌++◌, append-nil}
+use Prim.Native.Nat.{ℕ, ◌≤◌}
 use native.Mathlib.Omega.{arith}
 use lib.IntN.{ℤ, pos, ◌+ℤ◌}
-use lib.ListN.{length, take, drop, length-take}
-use lib.Seq.{get_or-take}
+use lib.ListN.{length, take, drop, length-take, drop_of_length-le}
+use lib.Seq.{get_or-take, length-take-le}
 use Rattle.integers.specs.Ranges.{is_zero}
 use Rattle.integers.proofs.Counts.{tabulate_ext}
 use Rattle.integers.proofs.Passes.{every_take}
@@ -58,15 +58,28 @@ module _ (p : List ℤ) (a : Amounts) where
           scratches = g.scratches;
         }
 
+    length-afters : length (afters k (befores p a)) ≡ length a.entries.now
+    length-afters = length-after (imbalance k.upper k.lower (befores p a)) (befores p a) ∙ length-befores p a
+
     pub zone-left : (p' : List ℤ) (o o' : Outputs) (s s' : List ℕ) (r : Outcome) → UsersLeave (take (length a.entries.now) p) p' a k o o' s s' r
         → ZoneLeaves p (p' ++ drop (length a.entries.now) p) a k o o' s s' r
     unfolding onto
-    zone-left p' o o' s s' r v =
+    zone-left p' o o' s s' r v = record {
+      lists = rw befores-take at v.lists;
+      places = rw length-afters (ap (λ (y : List ℤ). y ++ drop (length a.entries.now) p) (rw befores-take at v.places));
+    }
+
+    -- of places that are the users' alone nothing is left beyond theirs
+    pub copy_left : length a.entries.now ≤ length p → (p' : List ℤ) (o o' : Outputs) (s s' : List ℕ) (r : Outcome)
+        → ZoneLeaves (take (length a.entries.now) p) p' a k o o' s s' r → UsersLeave p p' a k o o' s s' r
+    unfolding onto
+    copy_left room p' o o' s s' r v =
+        let n = length a.entries.now in
         let ps = befores p a in
-        let l : length (afters k ps) ≡ length a.entries.now = length-after (imbalance k.upper k.lower ps) ps ∙ length-befores p a in
+        let none : drop (length (afters k ps)) (take n p) ≡ [] = drop_of_length-le (take n p) (omega (arith, length-afters, length-take-le n p room)) in
         record {
           lists = rw befores-take at v.lists;
-          places = rw l (ap (λ (y : List ℤ). y ++ drop (length a.entries.now) p) (rw befores-take at v.places));
+          places = (rw befores-take at v.places) ∙ ap (λ (y : List ℤ). afters k ps ++ y) none ∙ append-nil (afters k ps);
         }
 
 -- ---- the zone's part of the table

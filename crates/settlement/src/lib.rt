@@ -1,8 +1,9 @@
-// The settlement of an hour in one zone: rules 1 to 6 on a lent part of the table, once no cause is left.
+// The settlement of an hour in one zone: rules 1 to 6 on a lent part of the table, or for a preview on a copy of the users' places, once no cause is left.
 
 #![tactic(auto)]
 
-ghost use Rattle.std.specs.Prelude.{◌≡◌, length};
+ghost use Rattle.std.specs.Prelude.{◌≡◌, ◌≤◌, length, take};
+ghost use Rattle.rules.specs.Days.{part};
 ghost use Rattle.positions.specs.Before.{befores, InRange};
 ghost use Rattle.settlement.specs.Steps.{Asks, UsersLeave, ZoneLeaves, TableAsks, TableLeaves};
 
@@ -72,6 +73,8 @@ fn settle_zone(
     settle_users(&mut part[..users], amounts, terms, outputs, scratch)
 }
 
+// ---- an hour, and a preview of one
+
 // An hour works on its zone's part of the table and leaves the other part untouched: a branch for each part, as the papers name the form ("&mut table[128..256] is
 // lent on to the one-zone settlement").
 pub fn settle_table(
@@ -90,4 +93,44 @@ pub fn settle_table(
     } else {
         settle_zone(&mut table[128..256], amounts, terms, outputs, scratch)
     }
+}
+
+// As many places as are lent, from the first of a part on.
+fn copy_first(part: &[i64], places: &mut [i64])
+    requires { length places.old ≤ length part.now }
+    ensures { places.new ≡ take (length places.old) part.now }
+{
+    let users = places.len();
+    places.copy_from_slice(&part[..users]);
+}
+
+// Those of a zone, in a branch for each part as above.
+#[tactic(auto, unfolding(rules::specs::Days::part, rules::specs::Days::first_place))]
+fn copy_places(zone: i64, table: &[i64], places: &mut [i64])
+    requires { (length table.now ≡ 256) × (length places.old ≤ 128) }
+    ensures { places.new ≡ take (length places.old) (part zone table.now) }
+{
+    if zone == 0 {
+        copy_first(&table[0..128], places)
+    } else {
+        copy_first(&table[128..256], places)
+    }
+}
+
+// A preview settles the zone on a copy of its users' places, and the table is lent for reading.
+pub fn settle_copy(
+    table: &[i64],
+    amounts: &Amounts,
+    terms: HourTerms,
+    outputs: &mut Outputs,
+    after: &mut [i64],
+    scratch: &mut [u64],
+) -> Outcome
+    requires { TableAsks table.now amounts.now terms outputs.old scratch.old
+        × (length after.old ≡ length amounts.now.entries.now) }
+    ensures { UsersLeave (part terms.zone table.now) after.new amounts.now terms
+        outputs.old outputs.new scratch.old scratch.new result }
+{
+    copy_places(terms.zone, table, after);
+    settle_zone(after, amounts, terms, outputs, scratch)
 }

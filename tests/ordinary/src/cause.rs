@@ -6,7 +6,8 @@ pub const OPENING_USERS: u64 = 1;
 /// fewer than 24. Ask 3: "Causes 2 and 6 read that length in the place of 24, for both
 /// zones", and "cause 2 also covers a record with another length".
 pub const RECORD: u64 = 2;
-/// Table not of 256 places, or a list or the scratch not of exactly the user count.
+/// Table not of 256 places, or a list or the scratch not of exactly the user count. Ask 5,
+/// of a preview's positions after: "cause 3 covers the new list".
 pub const LENGTH: u64 = 3;
 /// Zone not 0 or 1.
 pub const ZONE: u64 = 4;

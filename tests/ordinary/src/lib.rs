@@ -1,9 +1,9 @@
-//! The Gas Day: opening a day, settling an hour, closing a zone, the default
-//! thresholds, and the reader and the writer of an hour's allocation file.
+//! The Gas Day: opening a day, settling an hour, the preview of one, closing a zone, the
+//! default thresholds, and the reader and the writer of an hour's allocation file.
 //!
 //! An ordinary program, written from the requirements paper ("The Gas Day:
-//! allocations, positions and settlement"), the writer, amounts in MWh and days of
-//! 23 and 25 hours from its change requests (Asks 1 to 3), and from nothing else.
+//! allocations, positions and settlement"), the writer, amounts in MWh, days of 23 and 25
+//! hours and the preview from its change requests (Asks 1 to 3 and 5), and from nothing else.
 //!
 //! Every call either is accepted or answers a cause (see [`cause`]). "Checked in
 //! the order of their numbers; the first that applies is given." Only 21 comes "at
@@ -21,6 +21,7 @@ mod hour;
 pub mod limits;
 pub mod made_up;
 pub mod present;
+mod preview;
 pub mod random;
 mod reader;
 pub mod spoilt;
@@ -35,6 +36,7 @@ mod tests;
 pub use closing::close_zone;
 pub use day::{open, Day};
 pub use hour::{settle_hour, Outcome, Side, Terms};
+pub use preview::preview_hour;
 pub use reader::{read_file, HEADER};
 pub use thresholds::default_thresholds;
 pub use writer::write_file;

@@ -11,6 +11,16 @@ use crate::spoilt_writing::Writing;
 
 /// Those of the hour's causes that apply.
 pub fn hour_causes(call: &Call) -> Vec<u64> {
+    causes_with(call, &[])
+}
+
+/// Those of the preview's causes that apply: the hour's, of which 3 speaks of one list more.
+pub fn preview_causes(call: &Call) -> Vec<u64> {
+    causes_with(call, &[call.after.len()])
+}
+
+/// Those of the hour's causes that apply if it is lent more lists, of these lengths.
+fn causes_with(call: &Call, more: &[usize]) -> Vec<u64> {
     let amounts = &call.amounts;
     let lists = [
         amounts.entry.len(),
@@ -23,7 +33,7 @@ pub fn hour_causes(call: &Call) -> Vec<u64> {
     ];
     let applies = [
         record(call),
-        lengths(call, &lists),
+        lengths(call, &lists) || lengths(call, more),
         !zone_is_one(call),
         of_zone(call, |zone| call.day.is_closed(zone)),
         of_zone(call, |zone| {

@@ -1,14 +1,15 @@
-//! Hours and closings that are fit, and ways to spoil one, each by one part of one of the
-//! paper's causes.
+//! Hours, previews and closings that are fit, and ways to spoil one, each by one part of one
+//! of the paper's causes.
 //!
 //! A way that finds no room in a call (a place beyond 128 users, say) leaves it as it was.
 
 use crate::made_up::{day, hour, odd_beyond, split, Hour, Kind, REACH};
 use crate::random::Random;
-use crate::{close_zone, limits, settle_hour, Day, Outcome};
+use crate::{close_zone, limits, preview_hour, settle_hour, Day, Outcome};
 
-/// What an hour or a closing is lent and given. A closing takes the zone and the two
-/// prices of what is given, and has no scratch.
+/// What an hour, a preview or a closing is lent and given. A preview alone is lent a list for
+/// the positions after. A closing takes the zone and the two prices of what is given, and has
+/// no scratch.
 #[derive(Clone, PartialEq, Debug)]
 pub struct Call {
     /// The record.
@@ -19,6 +20,8 @@ pub struct Call {
     pub quantity: Vec<i64>,
     /// The lent money list.
     pub money: Vec<i64>,
+    /// The lent list for the positions after.
+    pub after: Vec<i64>,
     /// The lent scratch.
     pub scratch: Vec<u64>,
     /// The zone.
@@ -39,6 +42,7 @@ impl Call {
             table,
             quantity: vec![9; users],
             money: vec![9; users],
+            after: vec![9; users],
             scratch: vec![9; users],
             zone,
             hour,
@@ -63,6 +67,27 @@ impl Call {
             &mut self.scratch,
         )?;
         self.day = day;
+        Ok(outcome)
+    }
+
+    /// Previews it as an hour; the record that an accepted preview answers is kept.
+    pub fn preview(&mut self) -> Result<Outcome, u64> {
+        let (record, outcome) = preview_hour(
+            self.day,
+            &self.table,
+            self.zone,
+            self.hour,
+            &self.amounts.entry,
+            &self.amounts.exit,
+            &self.amounts.title,
+            &self.amounts.pooling,
+            self.amounts.terms,
+            &mut self.quantity,
+            &mut self.money,
+            &mut self.after,
+            &mut self.scratch,
+        )?;
+        self.day = record;
         Ok(outcome)
     }
 
@@ -96,7 +121,7 @@ const fn way(cause: u64, part: &'static str, spoil: fn(&mut Random, &mut Call)) 
     Way { cause, part, spoil }
 }
 
-/// Of the causes that hours and closings share.
+/// Of the causes that all of them share.
 const SHARED: [Way; 25] = [
     way(2, "users below 1", |r, call| call.day.users = r.pick([0, -1, -128, i64::MIN])),
     way(2, "users above 128", |r, call| call.day.users = r.pick([129, 256, 1 << 32, i64::MAX])),
@@ -125,13 +150,13 @@ const SHARED: [Way; 25] = [
     way(7, "beyond the users in the other zone", |r, call| beyond_users(r, call, 1 - call.zone)),
 ];
 
-/// Of the causes that hours and closings share, in the zone that is not called.
+/// Of the causes that all of them share, in the zone that is not called.
 const OTHER_ZONE: [Way; 2] = [
     way(7, "other zone closed", |r, call| fill_idle(r, call, 1 - call.zone, true)),
     way(7, "other zone with no hours done", |r, call| fill_idle(r, call, 1 - call.zone, false)),
 ];
 
-/// Prices, for both; the hour's thresholds.
+/// Prices, for all of them.
 const PRICES: [Way; 4] = [
     way(8, "excess price above", |r, call| call.amounts.terms.excess_price = odd_beyond(r, limits::PRICE, 1)),
     way(8, "excess price below", |r, call| call.amounts.terms.excess_price = odd_beyond(r, limits::PRICE, -1)),
@@ -139,7 +164,7 @@ const PRICES: [Way; 4] = [
     way(8, "shortfall price below", |r, call| call.amounts.terms.shortfall_price = odd_beyond(r, limits::PRICE, -1)),
 ];
 
-/// Of hours alone.
+/// Of hours, and of previews as well.
 const HOUR: [Way; 28] = [
     way(3, "entry list", |r, call| resize(r, &mut call.amounts.entry)),
     way(3, "exit list", |r, call| resize(r, &mut call.amounts.exit)),
@@ -181,6 +206,13 @@ const HOUR: [Way; 28] = [
     }),
 ];
 
+/// Of previews alone, beside all that an hour has.
+const PREVIEW: [Way; 3] = [
+    way(3, "positions after one too few", |_, call| call.after.truncate(call.after.len().saturating_sub(1))),
+    way(3, "positions after one too many", |_, call| call.after.push(0)),
+    way(3, "positions after", |r, call| resize(r, &mut call.after)),
+];
+
 /// Of closings alone.
 const CLOSING: [Way; 2] = [
     way(6, "no hours done", |_, call| {
@@ -198,6 +230,11 @@ pub fn hour_ways() -> Vec<&'static Way> {
     by_cause(&[&SHARED, &OTHER_ZONE, &PRICES, &HOUR])
 }
 
+/// The ways to spoil a preview, by cause: those of an hour among them.
+pub fn preview_ways() -> Vec<&'static Way> {
+    by_cause(&[&SHARED, &OTHER_ZONE, &PRICES, &HOUR, &PREVIEW])
+}
+
 /// The ways to spoil a closing, by cause.
 pub fn closing_ways() -> Vec<&'static Way> {
     by_cause(&[&SHARED, &OTHER_ZONE, &PRICES, &CLOSING])
@@ -209,7 +246,7 @@ fn by_cause(lists: &[&'static [Way]]) -> Vec<&'static Way> {
     ways
 }
 
-/// An hour of the zone that is accepted, in a day of any length.
+/// An hour of the zone that is accepted, and its preview too, in a day of any length.
 pub fn fit_hour(random: &mut Random, zone: i64) -> Call {
     fit(random, zone, |hours, length| hours < length)
 }

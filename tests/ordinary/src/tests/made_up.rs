@@ -97,6 +97,9 @@ fn every_kind_of_hour_is_what_it_says() {
         let mut bench = Bench::opened(users);
         let start = bench.table.clone();
         let hour = hour(&mut random, users, kind, &start);
+        let mut shown = bench.clone();
+        let previewed = shown.preview(0, 1, &hour).unwrap();
+        check_hour(&start, &hour, &shown, &shown.after, previewed);
         let outcome = bench.hour(0, 1, &hour).unwrap();
         check_hour(&start, &hour, &bench, &bench.table[..128], outcome);
         match (kind, outcome) {
@@ -123,7 +126,8 @@ fn every_kind_of_hour_is_what_it_says() {
 
 /// "At the end the first equals the second plus the user's place in the zone's part of
 /// the table", over a list of accepted and refused calls. Ask 3: "The conservation rule is
-/// shown once for all lengths."
+/// shown once for all lengths." Ask 5: "no sum over history counts a preview", of which there
+/// is one before each hour.
 #[test]
 fn conservation_over_lists_of_calls() {
     let mut random = Random::new(2);
@@ -151,7 +155,7 @@ fn conservation_over_lists_of_calls() {
                 spoil(&mut random, &mut hour);
             }
             let number = bench.day.hours[zone] + random.pick([1, 1, 1, 0]);
-            if let Ok(outcome) = bench.hour(zone as i64, number, &hour) {
+            if let Ok(outcome) = bench.previewed_hour(zone as i64, number, &hour) {
                 accepted[0] += 1;
                 check_hour(&start, &hour, &bench, &bench.table[part..], outcome);
                 for g in 0..users {

@@ -5,12 +5,13 @@ mod causes;
 mod edges;
 mod lengths;
 mod made_up;
+mod preview;
 mod reader;
 mod spoilt;
 mod writer;
 
 use crate::made_up::Hour;
-use crate::{close_zone, open, settle_hour, Day, Outcome, Side, Terms};
+use crate::{close_zone, open, preview_hour, settle_hour, Day, Outcome, Side, Terms};
 
 /// Thresholds and prices of zero: "a threshold or price not named is 0".
 const NONE: Terms = Terms {
@@ -20,13 +21,14 @@ const NONE: Terms = Terms {
     shortfall_price: 0,
 };
 
-/// A record with all that is lent to hours and closings.
+/// A record with all that is lent to hours, previews and closings.
 #[derive(Clone, PartialEq, Debug)]
 struct Bench {
     day: Day,
     table: Vec<i64>,
     quantity: Vec<i64>,
     money: Vec<i64>,
+    after: Vec<i64>,
     scratch: Vec<u64>,
 }
 
@@ -46,6 +48,7 @@ impl Bench {
             table,
             quantity: vec![71; users],
             money: vec![72; users],
+            after: vec![74; users],
             scratch: vec![73; users],
         }
     }
@@ -87,6 +90,51 @@ impl Bench {
                 Ok(outcome)
             }
         }
+    }
+
+    /// Previews an hour. If refused, checks that all is as it was; if accepted, that record and
+    /// table are, and "The answer and lists are those that settling a copy would give".
+    fn preview(&mut self, zone: i64, hour: i64, given: &Hour) -> Result<Outcome, u64> {
+        let old = self.clone();
+        let answer = preview_hour(
+            self.day,
+            &self.table,
+            zone,
+            hour,
+            &given.entry,
+            &given.exit,
+            &given.title,
+            &given.pooling,
+            given.terms,
+            &mut self.quantity,
+            &mut self.money,
+            &mut self.after,
+            &mut self.scratch,
+        );
+        match answer {
+            Err(cause) => {
+                assert_eq!(*self, old);
+                Err(cause)
+            }
+            Ok((day, outcome)) => {
+                assert_eq!((day, &self.table), (old.day, &old.table));
+                let mut copy = old;
+                assert_eq!(copy.hour(zone, hour, given), Ok(outcome));
+                let start = zone as usize * 128;
+                copy.after.copy_from_slice(&copy.table[start..start + self.users()]);
+                (copy.day, copy.table) = (self.day, self.table.clone());
+                assert_eq!(*self, copy);
+                Ok(outcome)
+            }
+        }
+    }
+
+    /// An hour after its preview, which has the same answer.
+    fn previewed_hour(&mut self, zone: i64, hour: i64, given: &Hour) -> Result<Outcome, u64> {
+        let previewed = self.preview(zone, hour, given);
+        let answer = self.hour(zone, hour, given);
+        assert_eq!(answer, previewed);
+        answer
     }
 
     /// Closes a zone, with the same checks.

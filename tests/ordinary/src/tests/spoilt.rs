@@ -1,10 +1,10 @@
 //! Fit calls and the ways to spoil them: each brings its cause in days of each length.
 
-use crate::present::{closing_causes, hour_causes};
+use crate::present::{closing_causes, hour_causes, preview_causes};
 use crate::random::Random;
-use crate::spoilt::{closing_ways, fit_closing, fit_hour, hour_ways, Call, Way};
+use crate::spoilt::{closing_ways, fit_closing, fit_hour, hour_ways, preview_ways, Call, Way};
 
-/// Hours, or closings.
+/// Hours, previews, or closings.
 struct Calls {
     fit: fn(&mut Random, i64) -> Call,
     ways: Vec<&'static Way>,
@@ -13,12 +13,18 @@ struct Calls {
     causes: fn(&Call) -> Vec<u64>,
 }
 
-fn both() -> [Calls; 2] {
+fn all() -> [Calls; 3] {
     let hours = Calls {
         fit: fit_hour,
         ways: hour_ways(),
         call: |call| call.settle().err(),
         causes: hour_causes,
+    };
+    let previews = Calls {
+        fit: fit_hour,
+        ways: preview_ways(),
+        call: |call| call.preview().err(),
+        causes: preview_causes,
     };
     let closings = Calls {
         fit: fit_closing,
@@ -26,7 +32,7 @@ fn both() -> [Calls; 2] {
         call: |call| call.close().err(),
         causes: closing_causes,
     };
-    [hours, closings]
+    [hours, previews, closings]
 }
 
 /// Calls it; a refusal leaves all as it was, and the cause is the first that applies.
@@ -44,7 +50,7 @@ fn answer(calls: &Calls, call: &Call) -> Option<u64> {
 #[test]
 fn fit_calls_are_accepted_in_days_of_each_length() {
     let mut random = Random::new(31);
-    for calls in both() {
+    for calls in all() {
         let mut lengths = [0; 3];
         let mut last_hours = [0; 3];
         for round in 0..6_000 {
@@ -64,7 +70,7 @@ fn fit_calls_are_accepted_in_days_of_each_length() {
 #[test]
 fn each_way_brings_its_cause() {
     let mut random = Random::new(32);
-    for calls in both() {
+    for calls in all() {
         for way in &calls.ways {
             let mut brought = [[0; 3]; 2];
             for round in 0..240 {
@@ -91,7 +97,7 @@ fn each_way_brings_its_cause() {
 #[test]
 fn a_way_of_the_record_beside_another() {
     let mut random = Random::new(33);
-    for calls in both() {
+    for calls in all() {
         for record in calls.ways.iter().filter(|way| way.cause == 2) {
             for other in calls.ways.iter().filter(|way| way.cause > 2) {
                 let mut applying = 0;
@@ -134,7 +140,7 @@ fn just_beside(part: &str, call: &Call, length: i64) -> bool {
 #[test]
 fn ways_that_speak_of_the_length_go_just_beside_it() {
     let mut random = Random::new(34);
-    for calls in both() {
+    for calls in all() {
         let mut parts = 0;
         for way in &calls.ways {
             let mut beside = [0; 3];
@@ -158,7 +164,7 @@ fn ways_that_speak_of_the_length_go_just_beside_it() {
 #[test]
 fn another_length_alone_is_amiss() {
     let mut random = Random::new(35);
-    for calls in both() {
+    for calls in all() {
         for way in calls.ways.iter().filter(|way| way.part.starts_with("length")) {
             let mut alone = [0; 2];
             for round in 0..1_500 {
