@@ -1,4 +1,5 @@
-/* The Gas Day for C: opening, default thresholds, an hour's settlement and its preview, a zone's closing, and the reader and the writer of an hour's file.
+/* The Gas Day for C: opening, default thresholds, an hour's settlement, its preview and the judge of an operator's quantities, a zone's closing, and the reader and the
+ * writer of an hour's file.
  *
  * Link with libgas_day.a, or with libgas_day.so, which bindings/build makes and puts where it says; `pkg-config gas_day` names the flags.
  *
@@ -26,8 +27,8 @@ extern "C" {
 
 /* ---- the version of this header. A library of another version has other structs or other calls: compare before the first call. A call that is added, with its
  * causes and limits, changes nothing for older programs and leaves the version as it is. A library of this version may be older and lack it: a program that makes the
- * call is then not linked, or is ended by the loader, which names the call. Added to version 2 so far: gas_day_preview_hour. Since version 2 gas_day_open is told the
- * day's length, and the record holds it */
+ * call is then not linked, or is ended by the loader, which names the call. Added to version 2 so far: gas_day_preview_hour, gas_day_judge_hour. Since version 2
+ * gas_day_open is told the day's length, and the record holds it */
 
 #define GAS_DAY_VERSION UINT64_C(2)
 
@@ -54,7 +55,7 @@ uint64_t gas_day_version(void);
 #define GAS_DAY_WRITE_BYTES_MOST 7833              /* lent bytes that are enough for every file: 25, and 61 for each of 128 lines */
 
 /* ---- causes: the first that applies, in the order of their numbers, but for 21, which comes after 1 and before 3. The words are the requirements'; those of 2, 6 and 21
- * are made of them, since the day has a length */
+ * are made of them, since the day has a length, and 23 has "a quantity" for their "one" */
 
 enum {
     GAS_DAY_ACCEPTED = 0,
@@ -79,7 +80,10 @@ enum {
     GAS_DAY_CAUSE_WRITE_COUNT = 18,  /* the count is not 1 to 128, the zone not 0 or 1, or a list is not of the count's length */
     GAS_DAY_CAUSE_WRITE_NUMBER = 19, /* the hour or an amount has more than nine digits or the hour is negative */
     GAS_DAY_CAUSE_WRITE_ROOM = 20,   /* the lent bytes are too few */
-    GAS_DAY_CAUSE_DAY_LENGTH = 21    /* opening: length not 23, 24 or 25 */
+    GAS_DAY_CAUSE_DAY_LENGTH = 21,   /* opening: length not 23, 24 or 25 */
+    GAS_DAY_CAUSE_JUDGED_SIGN = 22,  /* a user who did not cause has a quantity or a causer's has the wrong sign */
+    GAS_DAY_CAUSE_JUDGED_SHARE = 23, /* a quantity is 1 kWh or more off */
+    GAS_DAY_CAUSE_JUDGED_SUM = 24    /* the sum is wrong */
 };
 
 /* ---- the day record: given by value, answered by value */
@@ -155,6 +159,21 @@ gas_day_hour gas_day_preview_hour(gas_day_day day, const int64_t *table, size_t 
                                   size_t entry_places, const int64_t *exit, size_t exit_places, const int64_t *title, size_t title_places,
                                   const int64_t *pooling, size_t pooling_places, int64_t *quantity, size_t quantity_places, int64_t *money,
                                   size_t money_places, int64_t *after, size_t after_places, uint64_t *scratch, size_t scratch_places);
+
+/* ---- the judge of an operator's own quantities for an hour, which may be rounded in another way than those of gas_day_settle_hour and still be right: causes 2 to 11, as
+ * of an hour, then 22 to 24. quantity is the operator's list: any numbers, and a place for each user. All areas are only read. Accepted are quantities that add to the
+ * excess, or to minus the shortfall, or to zero if there is neither; only causers have any, with the right sign, and each is less than 1 kWh from the exact share. A causer
+ * may have 0. Those that gas_day_settle_hour gives are accepted; accepted ones keep the market within its thresholds and let no position cross zero. 22 is looked at for
+ * every user before 23, and 23 for every user before 24. Answers the record that is given, accepted or refused */
+
+typedef struct {
+    uint64_t cause;
+    gas_day_day day;
+} gas_day_judged;
+
+gas_day_judged gas_day_judge_hour(gas_day_day day, const int64_t *table, size_t table_places, gas_day_hour_terms terms, const int64_t *entry,
+                                  size_t entry_places, const int64_t *exit, size_t exit_places, const int64_t *title, size_t title_places,
+                                  const int64_t *pooling, size_t pooling_places, const int64_t *quantity, size_t quantity_places);
 
 /* ---- a closing, after all hours of the day: causes 2 to 8. Fills quantity and money, sets the zone's places in the table to zero */
 

@@ -1,5 +1,5 @@
-"""The hourly balancing settlement of a gas market, recomputed: opening a Gas Day, default thresholds, settling an hour and previewing one, closing a zone, and reading and
-writing an hour's file.
+"""The hourly balancing settlement of a gas market, recomputed: opening a Gas Day, default thresholds, settling an hour, previewing one and judging an operator's quantities
+for one, closing a zone, and reading and writing an hour's file.
 
 The calls are those of a library that is proved to give exactly the answer that the requirements define, for every input. An hour of three users, from a new day; first its
 preview, which shows the hour before it is booked and leaves the day as it was:
@@ -22,7 +22,7 @@ preview, which shows the hour before it is booked and leaves the day as it was:
     [16666667, 8333333, -3000000]
 
 A `GasDay` carries its record and its table itself, and `day.state` is both, to be stored. The functions `settle_hour` and `close_zone` are given record and table and
-answer new ones; the function `preview_hour` is given them too.
+answer new ones; the functions `preview_hour` and `judge_hour` are given them too.
 
 A call that is turned away raises `Refusal`, with the first cause that applies: its number, its words and the call's name. Then nothing has changed.
 
@@ -65,6 +65,7 @@ __all__ = [
     "default_thresholds",
     "settle_hour",
     "preview_hour",
+    "judge_hour",
     "close_zone",
     "read_hour_file",
     "write_hour_file",
@@ -170,10 +171,13 @@ class Cause(IntEnum):
     WRITE_NUMBER = 19
     WRITE_ROOM = 20
     DAY_LENGTH = 21
+    JUDGED_SIGN = 22
+    JUDGED_SHARE = 23
+    JUDGED_SUM = 24
 
     @property
     def words(self) -> str:
-        """The cause in the words of the requirements; those of 2, 6 and 21 are made of them, since the day has a length."""
+        """The cause in the words of the requirements; those of 2, 6 and 21 are made of them, since the day has a length, and 23 has "a quantity" for their "one"."""
         return _WORDS[self]
 
 
@@ -200,6 +204,9 @@ _WORDS = {
     Cause.WRITE_NUMBER: "the hour or an amount has more than nine digits or the hour is negative",
     Cause.WRITE_ROOM: "the lent bytes are too few",
     Cause.DAY_LENGTH: "opening: length not 23, 24 or 25",
+    Cause.JUDGED_SIGN: "a user who did not cause has a quantity or a causer's has the wrong sign",
+    Cause.JUDGED_SHARE: "a quantity is 1 kWh or more off",
+    Cause.JUDGED_SUM: "the sum is wrong",
 }
 
 
@@ -361,6 +368,10 @@ class _Hour(Structure):
     ]
 
 
+class _Judged(Structure):
+    _fields_ = [("cause", c_uint64), ("day", _Day)]
+
+
 class _ClosingTerms(Structure):
     _fields_ = [("zone", c_int64), ("excess_price", c_int64), ("shortfall_price", c_int64)]
 
@@ -386,6 +397,7 @@ _CALLS = {
     "gas_day_default_thresholds": ([c_int64, c_int64], _Thresholds),
     "gas_day_settle_hour": ([_Day, *_NUMBERS, _HourTerms, *(6 * _NUMBERS), *_SCRATCH], _Hour),
     "gas_day_preview_hour": ([_Day, *_NUMBERS, _HourTerms, *(7 * _NUMBERS), *_SCRATCH], _Hour),
+    "gas_day_judge_hour": ([_Day, *_NUMBERS, _HourTerms, *(5 * _NUMBERS)], _Judged),
     "gas_day_close_zone": ([_Day, *_NUMBERS, _ClosingTerms, *(2 * _NUMBERS)], _Closing),
     "gas_day_read_hour_file": ([*_BYTES, *(4 * _NUMBERS)], _File),
     "gas_day_write_hour_file": ([c_int64, c_int64, c_int64, *(4 * _NUMBERS), *_BYTES], _Written),
@@ -608,6 +620,42 @@ def _preview(record: _Day, table: Any, terms: _HourTerms, amounts: List[Any]) ->
     return HourPreview(_outcome(seen), list(quantity), list(money), list(after))
 
 
+def judge_hour(
+    day: Day,
+    table: Numbers,
+    zone: int,
+    hour: int,
+    thresholds: Thresholds,
+    *,
+    excess_price: int,
+    shortfall_price: int,
+    entry: Numbers,
+    exit: Numbers,
+    title: Numbers,
+    pooling: Numbers,
+    quantity: Numbers,
+) -> None:
+    """Judges an operator's own quantities for an hour, one of each user, which may be rounded in another way than those of `settle_hour` and still be right; those are
+    accepted too. Returns if they are accepted, and raises `Refusal` if they are not: causes 2 to 11, as of an hour; then 22, 23 and 24, each looked at for every user
+    before the next. They have to add to the excess, or to minus the shortfall, or to zero if there is neither; only causers have any, with the right sign, and each is
+    less than 1 kWh from the exact share. Nothing given is changed.
+
+    >>> terms = dict(zone=Zone.H, hour=1, thresholds=Thresholds(1, 0), excess_price=20_000, shortfall_price=25_000)
+    >>> amounts = dict(entry=[1, 1, 1], exit=[0, 0, 0], title=[0, 0, 0], pooling=[0, 0, 0])
+    >>> judge_hour(Day(3, length=24), 256 * [0], **terms, **amounts, quantity=[1, 1, 0])
+    >>> judge_hour(Day(3, length=24), 256 * [0], **terms, **amounts, quantity=[0, 1, 1])
+    >>> judge_hour(Day(3, length=24), 256 * [0], **terms, **amounts, quantity=[2, 0, 0])
+    Traceback (most recent call last):
+    gas_day.Refusal: judge_hour refused by cause 23: a quantity is 1 kWh or more off
+    """
+    terms, amounts = _hour_terms(zone, hour, thresholds, excess_price, shortfall_price), _amounts(entry, exit, title, pooling)
+    _judge(_record(day), _area(table, "table"), terms, amounts, _area(quantity, "quantity"))
+
+
+def _judge(record: _Day, table: Any, terms: _HourTerms, amounts: List[Any], quantity: Any) -> None:
+    _accepted("judge_hour", _library.gas_day_judge_hour(record, *_lent(table), terms, *_lent(*amounts, quantity)))
+
+
 def close_zone(day: Day, table: Numbers, zone: int, *, excess_price: int, shortfall_price: int) -> ClosingDone:
     """Closes a zone after all hours of its day: each user's quantity is its whole position. Causes 2 to 8. Nothing given is changed.
 
@@ -665,8 +713,8 @@ def write_hour_file(hour: int, zone: int, *, entry: Numbers, exit: Numbers, titl
 class GasDay:
     """A Gas Day from its opening: its calls go on from the record and the table that the last accepted one left. A refused call leaves the object as it was.
 
-    Calls from several threads go one after the other; a preview, which changes nothing, waits for none and shows its hour on the day as it stands. An object can be copied
-    and pickled.
+    Calls from several threads go one after the other; a preview and a judge, which change nothing, wait for none and take the day as it stands. An object can be copied and
+    pickled.
     """
 
     def __init__(self, users: int, length: int) -> None:
@@ -744,6 +792,26 @@ class GasDay:
         terms, amounts = _hour_terms(zone, hour, thresholds, excess_price, shortfall_price), _amounts(entry, exit, title, pooling)
         day, table = self._state  # of one call, and nothing is kept: so it waits for no turn
         return _preview(_record(day), _area(table, "table"), terms, amounts)
+
+    def judge_hour(
+        self,
+        zone: int,
+        hour: int,
+        thresholds: Thresholds,
+        *,
+        excess_price: int,
+        shortfall_price: int,
+        entry: Numbers,
+        exit: Numbers,
+        title: Numbers,
+        pooling: Numbers,
+        quantity: Numbers,
+    ) -> None:
+        """Judges an operator's own quantities for an hour of this day, as the function `judge_hour` does. The day stays as it was."""
+        terms, amounts = _hour_terms(zone, hour, thresholds, excess_price, shortfall_price), _amounts(entry, exit, title, pooling)
+        judged = _area(quantity, "quantity")
+        day, table = self._state  # as of a preview
+        _judge(_record(day), _area(table, "table"), terms, amounts, judged)
 
     def settle_file(self, file: HourFile, thresholds: Thresholds, *, excess_price: int, shortfall_price: int) -> HourDone:
         """Settles the hour that a file has."""

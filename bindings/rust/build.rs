@@ -5,7 +5,7 @@ use std::process::exit;
 use std::{env, fs};
 
 /// The calls that were added after the first library: one that lacks them is older than this crate.
-const ADDED: [&str; 2] = ["gas_day_write_hour_file", "gas_day_preview_hour"];
+const ADDED: [&str; 3] = ["gas_day_write_hour_file", "gas_day_preview_hour", "gas_day_judge_hour"];
 
 fn folder() -> PathBuf {
     match env::var_os("GAS_DAY_LIB") {

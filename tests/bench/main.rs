@@ -1,5 +1,6 @@
-//! Hours of 128 users, and their previews, through the library, as a client calls it from Rust, and through the ordinary settlement, in turn, in one run: nanoseconds an hour,
-//! and the ratio, by kind of input. The table is restored before each hour, for both; before a preview too, so that its times are comparable with those of its hour.
+//! Hours of 128 users, their previews, and their own quantities judged, through the library, as a client calls it from Rust, and through the ordinary settlement, in turn, in
+//! one run: nanoseconds an hour, and the ratio, by kind of input. The table is restored before each hour, for both; before a preview and a judged hour too, so that their times
+//! are comparable with those of the hour.
 
 use gas_day::{Amounts, Day, HourTerms, Outputs, ZoneDay};
 use ordinary::made_up::{self, Kind};
@@ -12,7 +13,7 @@ const INPUTS: usize = 64;
 const PASSES: usize = 40;
 const ROUNDS: usize = 25;
 
-/// An hour 2 of the H zone, from a table that fits.
+/// An hour 2 of the H zone, from a table that fits, and the quantities that it is settled by.
 struct Input {
     users: i64,
     hours_l: i64,
@@ -21,6 +22,7 @@ struct Input {
     zone: i64,
     number: i64,
     hour: made_up::Hour,
+    own: Vec<i64>,
 }
 
 /// The areas that both write.
@@ -30,6 +32,18 @@ struct Lent {
     money: Vec<i64>,
     after: Vec<i64>,
     scratch: Vec<u64>,
+}
+
+impl Lent {
+    fn new() -> Lent {
+        Lent {
+            table: vec![0; 256],
+            quantity: vec![0; USERS],
+            money: vec![0; USERS],
+            after: vec![0; USERS],
+            scratch: vec![0; USERS],
+        }
+    }
 }
 
 fn library_day(input: &Input) -> Day {
@@ -89,6 +103,12 @@ fn library_preview(input: &Input, lent: &mut Lent) -> u64 {
     answer.map_or_else(|cause| cause.number(), |_| 0)
 }
 
+fn library_judge(input: &Input, lent: &mut Lent) -> u64 {
+    let day = library_day(input);
+    let answer = gas_day::judge_hour(&day, &lent.table, library_terms(input), library_amounts(input), &input.own);
+    answer.map_or_else(|cause| cause.number(), |()| 0)
+}
+
 fn ordinary_day(input: &Input) -> ordinary::Day {
     ordinary::Day {
         users: input.users,
@@ -135,7 +155,23 @@ fn ordinary_preview(input: &Input, lent: &mut Lent) -> u64 {
     answer.err().unwrap_or(0)
 }
 
-/// An hour or a preview; it answers its cause.
+fn ordinary_judge(input: &Input, lent: &mut Lent) -> u64 {
+    let answer = ordinary::judge_hour(
+        ordinary_day(input),
+        &lent.table,
+        input.zone,
+        input.number,
+        &input.hour.entry,
+        &input.hour.exit,
+        &input.hour.title,
+        &input.hour.pooling,
+        input.hour.terms,
+        &input.own,
+    );
+    answer.err().unwrap_or(0)
+}
+
+/// An hour, a preview or a judged hour; it answers its cause.
 type Call = fn(&Input, &mut Lent) -> u64;
 
 /// Nanoseconds an hour of one pass over the inputs, `PASSES` times.
@@ -152,13 +188,7 @@ fn timed(inputs: &[Input], lent: &mut Lent, call: Call, cause: u64) -> f64 {
 
 /// The least of many rounds for each, taken in turn.
 fn least(inputs: &[Input], library: Call, ordinary: Call, cause: u64) -> (f64, f64) {
-    let mut lent = Lent {
-        table: vec![0; 256],
-        quantity: vec![0; USERS],
-        money: vec![0; USERS],
-        after: vec![0; USERS],
-        scratch: vec![0; USERS],
-    };
+    let mut lent = Lent::new();
     let (mut ours, mut theirs) = (f64::MAX, f64::MAX);
     for _ in 0..ROUNDS {
         ours = ours.min(timed(inputs, &mut lent, library, cause));
@@ -185,11 +215,20 @@ fn inputs(random: &mut Random, kind: Kind, change: fn(&mut Input)) -> Vec<Input>
                 zone: 0,
                 number: 2,
                 hour,
+                own: Vec::new(),
             };
+            input.own = own_quantities(&input);
             change(&mut input);
             input
         })
         .collect()
+}
+
+fn own_quantities(input: &Input) -> Vec<i64> {
+    let mut lent = Lent::new();
+    lent.table.copy_from_slice(&input.table);
+    assert_eq!(ordinary_hour(input, &mut lent), 0);
+    lent.quantity
 }
 
 /// A change that spoils an hour, by name, and the cause that it is refused by. Where a list or the table is spoilt, it is at the last place: the dearest.
@@ -210,6 +249,12 @@ const SPOILT: [Spoilt; 14] = [
     ("9, last pooling amount", |input| input.hour.pooling[USERS - 1] = 100_000_001, 9),
     ("10, pooling sum", |input| input.hour.pooling[0] += 1, 10),
     ("11, last position before", leave_range, 11),
+];
+
+/// The same of the quantities of a judged excess.
+const SPOILT_QUANTITIES: [Spoilt; 2] = [
+    ("22, last quantity", |input| input.own[USERS - 1] = -1, 22),
+    ("23, last quantity that is not 0", |input| input.own.iter_mut().rfind(|own| **own != 0).into_iter().for_each(|own| *own += 2), 23),
 ];
 
 /// The hour is one of the L zone, which is closed.
@@ -243,5 +288,12 @@ fn main() {
     }
     for (kind, inputs) in &of_kinds {
         print_row(&format!("preview of {kind:?}"), least(inputs, library_preview, ordinary_preview, 0));
+    }
+    for (kind, inputs) in &of_kinds {
+        print_row(&format!("own quantities judged of {kind:?}"), least(inputs, library_judge, ordinary_judge, 0));
+    }
+    for (name, change, cause) in SPOILT_QUANTITIES {
+        let inputs = inputs(&mut random, Kind::Excess, change);
+        print_row(&format!("judged, refused by {name}"), least(&inputs, library_judge, ordinary_judge, cause));
     }
 }

@@ -23,6 +23,7 @@ STRUCTS = {
     "Thresholds": "gas_day_thresholds",
     "HourTerms": "gas_day_hour_terms",
     "Hour": "gas_day_hour",
+    "Judged": "gas_day_judged",
     "ClosingTerms": "gas_day_closing_terms",
     "Closing": "gas_day_closing",
     "File": "gas_day_file",

@@ -32,6 +32,14 @@ gas_day_hour gas_day_preview_hour(gas_day_day day, const int64_t *table, size_t 
     return (gas_day_hour){.day = day, .side = UINT64_MAX};
 }
 
+gas_day_judged gas_day_judge_hour(gas_day_day day, const int64_t *table, size_t table_places, gas_day_hour_terms terms, const int64_t *entry,
+                                  size_t entry_places, const int64_t *exit, size_t exit_places, const int64_t *title, size_t title_places,
+                                  const int64_t *pooling, size_t pooling_places, const int64_t *quantity, size_t quantity_places) {
+    (void)table, (void)table_places, (void)terms, (void)entry, (void)entry_places, (void)exit, (void)exit_places, (void)title, (void)title_places;
+    (void)pooling, (void)pooling_places, (void)quantity, (void)quantity_places;
+    return (gas_day_judged){.cause = 256 | GAS_DAY_CAUSE_JUDGED_SIGN, .day = day};
+}
+
 gas_day_closing gas_day_close_zone(gas_day_day day, int64_t *table, size_t table_places, gas_day_closing_terms terms, int64_t *quantity,
                                    size_t quantity_places, int64_t *money, size_t money_places) {
     (void)table, (void)table_places, (void)terms, (void)quantity, (void)quantity_places, (void)money, (void)money_places;

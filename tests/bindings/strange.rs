@@ -26,6 +26,11 @@ fn preview() {
     let _ = gas_day::preview_hour(&Day { users: 1, length: 24, h: ZONE, l: ZONE }, &[0; 256], TERMS, amounts, outputs, &mut [0], &mut [0]);
 }
 
+fn judge() {
+    let amounts = Amounts { entry: &[0], exit: &[0], title: &[0], pooling: &[0] };
+    let _ = gas_day::judge_hour(&Day { users: 1, length: 24, h: ZONE, l: ZONE }, &[0; 256], TERMS, amounts, &[0]);
+}
+
 fn close() {
     let outputs = Outputs { quantity: &mut [0], money: &mut [0] };
     let terms = ClosingTerms { zone: 0, excess_price: 0, shortfall_price: 0 };
@@ -45,11 +50,12 @@ fn write() {
 
 fn main() {
     set_hook(Box::new(|_| ()));
-    let calls: [(&str, fn()); 7] = [
+    let calls: [(&str, fn()); 8] = [
         ("open", open),
         ("default_thresholds", thresholds),
         ("settle_hour", settle),
         ("preview_hour", preview),
+        ("judge_hour", judge),
         ("close_zone", close),
         ("read_hour_file", read),
         ("write_hour_file", write),

@@ -1,10 +1,11 @@
-//! Calls made up at random: whole days with their conservation sums, single odd calls and previews, openings, thresholds, files and writings.
+//! Calls made up at random: whole days with their conservation sums, single odd calls, previews and judged hours, openings, thresholds, files and writings.
 
 use crate::both::Run;
 use crate::counts::LENGTHS;
 use ordinary::made_up::{self, Kind};
 use ordinary::random::Random;
 use ordinary::spoilt::Call;
+use ordinary::spoilt_quantities::right_quantities;
 use ordinary::spoilt_writing::{fit_writing, Writing, ROOMS};
 
 /// A call of hour 1 of the H zone; what it is given is made up later.
@@ -50,7 +51,7 @@ impl Sums {
 }
 
 /// Whole days of each length, until both zones are closed: hours of every kind and closings, accepted and refused, with the conservation sums. On every third day each hour is
-/// previewed first, which the sums do not count.
+/// previewed first, and on every third its quantities are judged, which the sums do not count.
 pub fn days(run: &mut Run, seed: u64, rounds: usize) {
     let mut random = Random::new(seed);
     for round in 0..rounds {
@@ -60,7 +61,7 @@ pub fn days(run: &mut Run, seed: u64, rounds: usize) {
         let (day, table) = run.opening(users as i64, length, 256).expect("opened");
         let mut call = first_hour(day, table, &mut random);
         let mut sums = Sums::new();
-        let hour = if round % 3 == 0 { Run::preview_and_hour } else { Run::hour };
+        let hour = [Run::preview_and_hour, Run::judge_and_hour, Run::hour][round % 3];
         while call.day.closed != [1, 1] {
             call_of_day(run, &mut random, &mut call, &mut sums, hour);
         }
@@ -70,7 +71,7 @@ pub fn days(run: &mut Run, seed: u64, rounds: usize) {
     }
 }
 
-/// How an hour of a day is called: with its preview before it, or without.
+/// How an hour of a day is called: with its preview before it, with its quantities judged, or alone.
 type HourCall = fn(&mut Run, &mut Call) -> u64;
 
 /// An hour, or now and then a closing, of either zone.
@@ -136,8 +137,67 @@ pub fn odd_previews(run: &mut Run, seed: u64, rounds: usize) {
     }
 }
 
+/// Single judged hours: mostly with right quantities or with a few that are odd, and now and then with something odd about the call, as calls have it.
+pub fn judged_hours(run: &mut Run, seed: u64, rounds: usize) {
+    let mut random = Random::new(seed);
+    for round in 0..rounds {
+        run.at = format!("judged hours, seed {seed}, round {round}");
+        let (mut call, kind) = open_call(&mut random);
+        call.quantity = right_quantities(&mut random, &call);
+        for _ in 0..random.pick([0, 0, 1, 1, 2, 3]) {
+            odd_quantity(&mut random, &mut call.quantity);
+        }
+        if random.one_in(3) {
+            let users = call.quantity.len();
+            odd(&mut random, users, &mut call);
+        }
+        if run.judge(&mut call) == 0 {
+            run.counts.count("accepted judged hours by kind", &format!("{kind:?}"));
+        }
+    }
+}
+
+/// A fit call of an hour in the middle of a day, and the kind of the hour.
+fn open_call(random: &mut Random) -> (Call, Kind) {
+    loop {
+        let (call, kind) = some_call(random);
+        let zone = call.zone as usize;
+        if !call.day.is_closed(zone) && call.hour <= call.day.length {
+            return (call, kind);
+        }
+    }
+}
+
+/// Makes a quantity odd, or two, or all: often by no more than a kWh.
+fn odd_quantity(random: &mut Random, quantity: &mut [i64]) {
+    let [a, b] = [0; 2].map(|_| random.below(quantity.len()));
+    match random.below(9) {
+        0 => quantity[a] = made_up::odd_number(random),
+        1 => quantity[a] = random.bits() as i64,
+        2 => quantity[a] = quantity[a].saturating_add(random.pick([1, -1])),
+        3 => quantity[a] = quantity[a].saturating_neg(),
+        4 => quantity.swap(a, b),
+        5 => quantity.fill(0),
+        6 => quantity.iter_mut().for_each(|quantity| *quantity = quantity.saturating_neg()),
+        _ => {
+            quantity[a] = quantity[a].saturating_sub(1);
+            quantity[b] = quantity[b].saturating_add(1);
+        }
+    }
+}
+
 /// A call in the middle of a day that is fit as an hour, but for up to two things, and the kind of its hour.
 fn odd_call(random: &mut Random) -> (Call, Kind) {
+    let (mut call, kind) = some_call(random);
+    let users = call.quantity.len();
+    for _ in 0..random.below(3) {
+        odd(random, users, &mut call);
+    }
+    (call, kind)
+}
+
+/// A call in the middle of a day, which may be a zone's end, and the kind of its hour.
+fn some_call(random: &mut Random) -> (Call, Kind) {
     let users = random.pick([1, 2, 3, 128]);
     let (day, table) = made_up::day(random, users);
     let mut call = first_hour(day, table, random);
@@ -146,9 +206,6 @@ fn odd_call(random: &mut Random) -> (Call, Kind) {
     let part = call.zone as usize * 128;
     let kind = random.pick(Kind::ALL);
     call.amounts = made_up::hour(random, users, kind, &call.table[part..part + 128]);
-    for _ in 0..random.below(3) {
-        odd(random, users, &mut call);
-    }
     (call, kind)
 }
 

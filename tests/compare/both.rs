@@ -1,7 +1,8 @@
 //! One call by both: the same is given and lent to each; the answer, the record and everything lent are compared afterwards, and a refused call also with what was
-//! lent. A difference ends the run with where it came up and what was given. Every call is counted, by its cause and, if it is an accepted hour or preview, by its side.
+//! lent. A difference ends the run with where it came up and what was given. Every call is counted, by its cause and, if it is an accepted hour or preview, by its side; a
+//! judged hour also by its side and rounding, if its quantities were looked at.
 
-use crate::counts::Counts;
+use crate::counts::{part_name, Counts};
 use gas_day::{Amounts, Cause, ClosingTerms, Day, HourTerms, FileLists, Outputs, ZoneDay};
 use ordinary::made_up::Hour;
 use ordinary::spoilt::Call;
@@ -120,6 +121,13 @@ fn library_preview(call: &mut Call) -> HourAnswer {
     of_library(answer)
 }
 
+/// Of a judged hour: the cause. The crate keeps the record that comes back to itself.
+fn library_judge(call: &Call) -> u64 {
+    let (terms, amounts) = (terms_of(call), amounts_of(&call.amounts));
+    let answer = gas_day::judge_hour(&as_library(call.day), &call.table, terms, amounts, &call.quantity);
+    answer.map_or_else(Cause::number, |()| 0)
+}
+
 /// Of a closing: cause, sold and bought.
 type ClosingAnswer = (u64, i64, i64);
 
@@ -188,7 +196,7 @@ fn unit_of(bytes: &[u8], lines: i64) -> &'static str {
     }
 }
 
-/// The sides of an accepted hour or preview, in the order of their numbers.
+/// The sides of an accepted hour, preview or judged hour, in the order of their numbers.
 pub const SIDES: [&str; 3] = ["within", "excess", "shortfall"];
 
 /// The rows of what is before the last hour, the last hour, and after it.
@@ -196,6 +204,19 @@ pub const HOURS_OF_A_DAY: [&str; 3] =
     ["hours before the last by length of the day", "last hours by length of the day", "hours after the last, refused, by length of the day"];
 pub const PREVIEWS_OF_A_DAY: [&str; 3] =
     ["previews before the last hour by length of the day", "previews of the last hour by length of the day", "previews after the last hour, refused, by length of the day"];
+
+pub const JUDGED_OF_A_DAY: [&str; 3] =
+    ["judged hours before the last by length of the day", "judged last hours by length of the day", "judged hours after the last, refused, by length of the day"];
+
+/// How an accepted list of quantities is rounded.
+pub const ROUNDINGS: [&str; 2] = ["as settled", "otherwise"];
+
+/// What the settlement makes of the hour of a call whose own lists and scratch may be of any length: its side, and the quantities.
+fn settled_side(call: &Call) -> (&'static str, Vec<i64>) {
+    let mut settled = Call::new(call.day, call.table.clone(), call.zone, call.hour, call.amounts.clone());
+    let (_, side, ..) = of_ordinary(settled.settle());
+    (SIDES[side as usize], settled.quantity)
+}
 
 /// The accepted preview is booked: the table holds the positions after, and the record has one hour more.
 fn book(shown: &mut Call) {
@@ -237,6 +258,49 @@ impl Run {
         }
         self.counts.count("previews and then their hours", if found.0 == 0 { "accepted" } else { "refused" });
         found.0
+    }
+
+    /// The quantities that the call has are judged, then the hour is settled, and then its own quantities are judged of the state before it: accepted if the hour is, and else refused by
+    /// what it is refused by. Answers the hour's cause.
+    pub fn judge_and_hour(&mut self, call: &mut Call) -> u64 {
+        let before = call.clone();
+        self.judge(call);
+        let cause = self.hour(call);
+        let quantity = call.quantity.clone();
+        let own = self.judge(&mut Call { quantity, ..before });
+        // a refused hour leaves the quantities as they were
+        assert!(own == cause, "{}: an hour's own quantities are judged by {own}, and the hour by {cause}", self.at);
+        self.counts.count("hours and then their own quantities judged", if cause == 0 { "accepted" } else { "refused" });
+        cause
+    }
+
+    /// The quantities of the call judged for its hour. Answers the cause.
+    pub fn judge(&mut self, call: &mut Call) -> u64 {
+        let before = call.clone();
+        let mut other = call.clone();
+        let expected = other.judge().err().unwrap_or(0);
+        let found = library_judge(call);
+        self.same("a judged hour", &before, (found, call), (expected, &other), expected);
+        if *call != before {
+            panic!("{}: a judged hour that was accepted changed something\ngiven {before:?}", self.at);
+        }
+        self.counts.call("judged hours by cause", expected);
+        if expected == 0 || expected >= 22 {
+            self.by_side_and_rounding(&before, expected);
+        }
+        self.about_the_last_hour(&JUDGED_OF_A_DAY, &before, expected);
+        expected
+    }
+
+    /// Counts a judged hour whose quantities were looked at.
+    fn by_side_and_rounding(&mut self, given: &Call, cause: u64) {
+        let (side, own) = settled_side(given);
+        if cause == 0 {
+            self.counts.count("accepted judged hours by side", side);
+            self.counts.count("accepted judged hours by rounding", ROUNDINGS[usize::from(given.quantity != own)]);
+        } else {
+            self.counts.count("judged hours by cause and side", &part_name(cause, side));
+        }
     }
 
     fn previewed(&mut self, call: &mut Call) -> HourAnswer {
@@ -287,7 +351,7 @@ impl Run {
         expected.0
     }
 
-    /// Counts an hour or a preview by where it is in its day, if it is accepted or is just after the day's end.
+    /// Counts an hour, a preview or a judged hour by where it is in its day, if it is accepted or is just after the day's end.
     fn about_the_last_hour(&mut self, [earlier, last, later]: &[&str; 3], given: &Call, cause: u64) {
         let length = given.day.length;
         match cause {

@@ -1,8 +1,8 @@
 //! How many calls were made of everything that is to come up, and how many of it there have to be at least.
 
-use crate::both::{HOURS_OF_A_DAY, PREVIEWS_OF_A_DAY, SIDES, UNITS};
+use crate::both::{HOURS_OF_A_DAY, JUDGED_OF_A_DAY, PREVIEWS_OF_A_DAY, ROUNDINGS, SIDES, UNITS};
 use ordinary::made_up::Kind;
-use ordinary::spoilt::{closing_ways, hour_ways, preview_ways, Way};
+use ordinary::spoilt::{closing_ways, hour_ways, judged_ways, preview_ways, Way};
 use ordinary::spoilt_file;
 use ordinary::spoilt_writing::{ROOMS, WRITING_WAYS};
 
@@ -38,11 +38,26 @@ pub const FILE_PAIRS: [(u64, u64); 9] = [(12, 13), (12, 14), (12, 15), (12, 16),
 /// Within one line the lower number is given, over two lines that of the first line.
 pub const LINE_PAIRS: [(u64, u64); 3] = [(14, 15), (14, 16), (15, 16)];
 pub const TWO_LINES: [(u64, u64); 6] = [(14, 15), (14, 16), (15, 14), (15, 16), (16, 14), (16, 15)];
+/// Of a judged hour the lower number is given, also where it is the later user that brings it.
+pub const TWO_USERS: [(u64, u64); 3] = [(22, 23), (22, 24), (23, 24)];
+/// Within the thresholds a judged hour's quantities are zero or refused by 22.
+const JUDGED_SIDES: [(u64, &str); 7] =
+    [(22, "within"), (22, "excess"), (22, "shortfall"), (23, "excess"), (23, "shortfall"), (24, "excess"), (24, "shortfall")];
 
 /// Every pair of these causes, the lower one first.
-pub fn pairs(causes: std::ops::RangeInclusive<u64>) -> Vec<(u64, u64)> {
-    let above = |lower: u64| (lower + 1..=*causes.end()).map(move |higher| (lower, higher));
-    causes.clone().flat_map(above).collect()
+pub fn pairs(causes: impl IntoIterator<Item = u64>) -> Vec<(u64, u64)> {
+    let causes: Vec<u64> = causes.into_iter().collect();
+    let above = |at: usize| causes[at + 1..].iter().map(|&higher| (causes[at], higher)).collect::<Vec<_>>();
+    (0..causes.len()).flat_map(above).collect()
+}
+
+/// The causes of a judged hour.
+fn judged_causes() -> impl Iterator<Item = u64> {
+    (2..=11).chain(22..=24)
+}
+
+pub fn judged_pairs() -> Vec<(u64, u64)> {
+    pairs(judged_causes())
 }
 
 pub fn closing_pairs() -> Vec<(u64, u64)> {
@@ -78,7 +93,11 @@ fn accepted_rows() -> Vec<Row> {
         row("accepted previews by kind", LEAST_OF_A_KIND, Kind::ALL.map(|kind| format!("{kind:?}"))),
         row("accepted previews by side", LEAST_OF_A_SIDE, SIDES),
         row("previews and then their hours", LEAST_OF_A_SIDE, ["accepted", "refused"]),
-        row("accepted calls", LEAST_ACCEPTED, ["hours", "previews", "closings", "openings", "thresholds", "files", "writings"]),
+        row("accepted judged hours by kind", LEAST_OF_A_KIND, Kind::ALL.map(|kind| format!("{kind:?}"))),
+        row("accepted judged hours by side", LEAST_OF_A_SIDE, SIDES),
+        row("accepted judged hours by rounding", LEAST_OF_A_SIDE, ROUNDINGS),
+        row("hours and then their own quantities judged", LEAST_OF_A_SIDE, ["accepted", "refused"]),
+        row("accepted calls", LEAST_ACCEPTED, ["hours", "previews", "judged hours", "closings", "openings", "thresholds", "files", "writings"]),
         row("accepted writings by room", LEAST_ACCEPTED, ROOMS.map(|(name, _)| name)),
         row("files that were read and written again", LEAST_ACCEPTED, UNITS),
         row("accepted openings by length of the day", LEAST_OF_A_KIND, LENGTHS),
@@ -95,6 +114,9 @@ fn day_rows() -> Vec<Row> {
         row(PREVIEWS_OF_A_DAY[0], LEAST_OF_A_KIND, LENGTHS),
         row(PREVIEWS_OF_A_DAY[1], LEAST_OF_A_KIND, LENGTHS),
         row(PREVIEWS_OF_A_DAY[2], LEAST_OF_A_PART, LENGTHS),
+        row(JUDGED_OF_A_DAY[0], LEAST_OF_A_KIND, LENGTHS),
+        row(JUDGED_OF_A_DAY[1], LEAST_OF_A_KIND, LENGTHS),
+        row(JUDGED_OF_A_DAY[2], LEAST_OF_A_PART, LENGTHS),
         row("closings an hour early, refused, by length of the day", LEAST_OF_A_PART, LENGTHS),
         row("closings after the last hour by length of the day", LEAST_OF_A_KIND, LENGTHS),
     ]
@@ -104,6 +126,8 @@ fn cause_rows() -> Vec<Row> {
     vec![
         row("hours by cause", LEAST_OF_A_CAUSE, 2..=11),
         row("previews by cause", LEAST_OF_A_CAUSE, 2..=11),
+        row("judged hours by cause", LEAST_OF_A_CAUSE, judged_causes()),
+        row("judged hours by cause and side", LEAST_OF_A_SIDE, JUDGED_SIDES.map(|(cause, side)| part_name(cause, side))),
         row("closings by cause", LEAST_OF_A_CAUSE, 2..=8),
         row("openings by cause", LEAST_OF_A_CAUSE, [1, 21, 3]),
         row("thresholds by cause", LEAST_OF_A_CAUSE, [4, 8]),
@@ -118,6 +142,8 @@ fn part_rows() -> Vec<Row> {
         parts("hours of zone L by part of a cause", &hour_ways()),
         parts("previews of zone H by part of a cause", &preview_ways()),
         parts("previews of zone L by part of a cause", &preview_ways()),
+        parts("judged hours of zone H by part of a cause", &judged_ways()),
+        parts("judged hours of zone L by part of a cause", &judged_ways()),
         parts("closings of zone H by part of a cause", &closing_ways()),
         parts("closings of zone L by part of a cause", &closing_ways()),
         row("openings by part of a cause", LEAST_OF_A_PART, OPENING_PARTS),
@@ -132,6 +158,8 @@ fn pair_rows() -> Vec<Row> {
     vec![
         pairs_row("hours by pair of causes", &pairs(2..=11)),
         pairs_row("previews by pair of causes", &pairs(2..=11)),
+        pairs_row("judged hours by pair of causes", &judged_pairs()),
+        pairs_row("judged hours by pair of causes of two users, the later user's first", &TWO_USERS),
         pairs_row("closings by pair of causes", &closing_pairs()),
         pairs_row("openings by pair of causes", &OPENING_PAIRS),
         pairs_row("thresholds by pair of causes", &[(4, 8)]),

@@ -1,14 +1,15 @@
 //! Calls spoilt on purpose: by every part of every cause, in both zones, and by every two causes that can come together, so that the first is answered.
 
 use crate::both::Run;
-use crate::counts::{closing_pairs, pair_name, pairs, part_name, FILE_PAIRS, LENGTHS, LINE_PAIRS, TWO_LINES};
-use ordinary::present::{closing_causes, hour_causes, preview_causes, writing_causes};
+use crate::counts::{closing_pairs, judged_pairs, pair_name, pairs, part_name, FILE_PAIRS, LENGTHS, LINE_PAIRS, TWO_LINES, TWO_USERS};
+use ordinary::present::{closing_causes, hour_causes, judged_causes, preview_causes, writing_causes};
 use ordinary::random::Random;
-use ordinary::spoilt::{closing_ways, fit_closing, fit_hour, hour_ways, preview_ways, Call, Way};
+use ordinary::spoilt::{closing_ways, fit_closing, fit_hour, fit_judged, hour_ways, judged_ways, preview_ways, Call, Way};
 use ordinary::spoilt_file::{fit_file, File, FileWay, WAYS};
+use ordinary::spoilt_quantities::spoil_two_users;
 use ordinary::spoilt_writing::{fit_writing, Writing, WritingWay, ROOMS, WRITING_WAYS};
 
-/// What differs between hours, previews and closings.
+/// What differs between hours, previews, judged hours and closings.
 struct Calls {
     name: &'static str,
     rows: [&'static str; 2],
@@ -42,6 +43,17 @@ const PREVIEWS: Calls = Calls {
     present: preview_causes,
 };
 
+const JUDGED: Calls = Calls {
+    name: "judged hours on purpose",
+    rows: ["judged hours of zone H by part of a cause", "judged hours of zone L by part of a cause"],
+    pairs_row: "judged hours by pair of causes",
+    ways: judged_ways,
+    pairs: judged_pairs,
+    fit: fit_judged,
+    both: Run::judge,
+    present: judged_causes,
+};
+
 const CLOSINGS: Calls = Calls {
     name: "closings on purpose",
     rows: ["closings of zone H by part of a cause", "closings of zone L by part of a cause"],
@@ -53,14 +65,16 @@ const CLOSINGS: Calls = Calls {
     present: closing_causes,
 };
 
-/// Hours, closings and previews, each spoilt by one way and then by two.
+/// Hours, closings, previews and judged hours, each spoilt by one way and then by two.
 pub fn calls_of_a_day(run: &mut Run, seed: u64, rounds: usize) {
     let mut random = Random::new(seed);
-    for calls in [HOURS, CLOSINGS, PREVIEWS] {
+    for calls in [HOURS, CLOSINGS, PREVIEWS, JUDGED] {
         run.at = format!("{}, seed {seed}", calls.name);
         for zone in [0, 1] {
             for way in (calls.ways)() {
-                (0..rounds).for_each(|_| spoilt_once(run, &mut random, &calls, zone, way));
+                // of the ways of an operator's quantities more find no room in an hour
+                let times = if way.cause < 22 { rounds } else { 4 * rounds };
+                (0..times).for_each(|_| spoilt_once(run, &mut random, &calls, zone, way));
             }
         }
         for pair in (calls.pairs)() {
@@ -95,6 +109,26 @@ fn spoilt_twice(run: &mut Run, random: &mut Random, calls: &Calls, (lower, highe
     assert_eq!(cause, causes.first().copied().unwrap_or(0), "{}: not the first cause that applies", run.at);
     if cause == lower && causes.contains(&higher) {
         run.counts.count(calls.pairs_row, &pair_name((lower, higher)));
+    }
+}
+
+/// Judged hours in which an earlier user's quantity brings one cause and a later one's another, which is given.
+pub fn two_users(run: &mut Run, seed: u64, rounds: usize) {
+    let mut random = Random::new(seed);
+    run.at = format!("judged hours of two users on purpose, seed {seed}");
+    for pair in TWO_USERS {
+        (0..rounds).for_each(|round| two_users_once(run, &mut random, pair, round as i64 % 2));
+    }
+}
+
+fn two_users_once(run: &mut Run, random: &mut Random, (first, second): (u64, u64), zone: i64) {
+    let mut call = fit_judged(random, zone);
+    let both = spoil_two_users(random, &mut call, (first, second));
+    let causes = judged_causes(&call);
+    let cause = run.judge(&mut call);
+    assert_eq!(cause, causes.first().copied().unwrap_or(0), "{}: not the first cause that applies", run.at);
+    if both && cause == first && causes.contains(&second) {
+        run.counts.count("judged hours by pair of causes of two users, the later user's first", &pair_name((first, second)));
     }
 }
 

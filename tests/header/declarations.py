@@ -14,6 +14,7 @@ STRUCTS = {
     "ThresholdsC": "gas_day_thresholds",
     "HourTerms": "gas_day_hour_terms",
     "HourC": "gas_day_hour",
+    "JudgedC": "gas_day_judged",
     "ClosingTerms": "gas_day_closing_terms",
     "ClosingC": "gas_day_closing",
     "FileC": "gas_day_file",

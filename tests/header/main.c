@@ -48,7 +48,7 @@ static gas_day_hour settle(gas_day_day day, gas_day_hour_terms terms) {
                                lent.quantity, users, lent.money, users, lent.scratch, users);
 }
 
-/* The areas of a preview in their order, as the places of their lengths. */
+/* The areas of a preview in their order, as the places of their lengths. Those of a judge are the first of them, up to the quantities. */
 enum { TABLE, ENTRY, EXIT, TITLE, POOLING, QUANTITY, MONEY, AFTER, SCRATCH, AREAS };
 
 typedef struct {
@@ -68,6 +68,13 @@ static gas_day_hour preview_from(const int64_t *table, lengths places, gas_day_d
 }
 
 static gas_day_hour preview(gas_day_day day, gas_day_hour_terms terms) { return preview_from(lent.table, right_lengths(), day, terms); }
+
+/* The operator's quantities are those that are lent. */
+static gas_day_judged judge_of(lengths places, gas_day_day day, gas_day_hour_terms terms) {
+    const size_t *of = places.of;
+    return gas_day_judge_hour(day, lent.table, of[TABLE], terms, lent.entry, of[ENTRY], lent.exit, of[EXIT], lent.title, of[TITLE], lent.pooling, of[POOLING],
+                              lent.quantity, of[QUANTITY]);
+}
 
 static gas_day_closing close_zone(gas_day_day day, gas_day_closing_terms terms) {
     return gas_day_close_zone(day, lent.table, GAS_DAY_TABLE_PLACES, terms, lent.quantity, USERS, lent.money, USERS);
@@ -95,8 +102,21 @@ static void hour_is(gas_day_hour hour, uint64_t cause, uint64_t side, int64_t to
     IS(hour.number, number);
 }
 
+/* A judge answers this cause, 0 if it accepts, with the same record and every area as it was. */
+static void is_judged(gas_day_judged answer, gas_day_day day, uint64_t cause, const areas *before) {
+    IS(answer.cause, cause);
+    same_day(answer.day, day);
+    IS(memcmp(before, &lent, sizeof lent), 0);
+}
+
+static void judged(gas_day_day day, gas_day_hour_terms terms, uint64_t cause) {
+    areas before = lent;
+    is_judged(judge_of(right_lengths(), day, terms), day, cause, &before);
+}
+
 /* The hour, settled after its preview. The preview gives the same answer, but for the record, which is the one given; the same quantities, money and scratch; and in a
- * list of their own the positions that the table has after the hour. It leaves the table, the amounts and what lies behind the lists. */
+ * list of their own the positions that the table has after the hour. It leaves the table, the amounts and what lies behind the lists. The quantities are those that a
+ * judge of the same hour accepts. */
 static gas_day_hour settle_previewed(gas_day_day day, gas_day_hour_terms terms) {
     areas before = lent;
     gas_day_hour seen = preview(day, terms);
@@ -110,6 +130,11 @@ static gas_day_hour settle_previewed(gas_day_day day, gas_day_hour_terms terms) 
     memcpy(expected.scratch, lent.scratch, USERS * sizeof *lent.scratch);
     memcpy(expected.after, &lent.table[terms.zone * GAS_DAY_ZONE_PLACES], USERS * sizeof *lent.after);
     IS(memcmp(&expected, &shown, sizeof shown), 0);
+    areas settled = lent;
+    lent = before;
+    memcpy(lent.quantity, settled.quantity, USERS * sizeof *lent.quantity);
+    judged(day, terms, GAS_DAY_ACCEPTED);
+    lent = settled;
     return hour;
 }
 
@@ -120,11 +145,12 @@ static void is_refused(gas_day_hour hour, gas_day_day day, uint64_t cause, const
     IS(memcmp(before, &lent, sizeof lent), 0);
 }
 
-/* An hour and its preview are refused so, and a closing is. */
+/* An hour, its preview and its judge are refused so, and a closing is. The list that is judged is mostly one that would be refused too, if it came to that. */
 static void hour_refused(gas_day_day day, gas_day_hour_terms terms, uint64_t cause) {
     areas before = lent;
     is_refused(settle(day, terms), day, cause, &before);
     is_refused(preview(day, terms), day, cause, &before);
+    judged(day, terms, cause);
 }
 
 static void closing_refused(gas_day_day day, gas_day_closing_terms terms, uint64_t cause) {
@@ -410,13 +436,150 @@ static void lengths_of_a_preview(gas_day_day day) {
     }
 }
 
-/* A preview may be lent a table that cannot be written. Place 66 at 5 kWh: 2 above the upper threshold of 3. */
-static void table_for_reading(void) {
-    static const int64_t table[GAS_DAY_TABLE_PLACES] = {0};
-    gas_day_day day = opened_day(GAS_DAY_LENGTH_USUAL);
+/* The same of a judge, whose quantities are wrong whatever the lengths are. */
+static void lengths_of_a_judge(gas_day_day day) {
+    gas_day_day spoilt = day;
+    spoilt.length = 0;
     no_amounts();
+    areas before = lent;
+    for (int area = TABLE; area <= QUANTITY; area++) {
+        for (int off = -1; off <= 1; off += 2) {
+            lengths places = right_lengths();
+            places.of[area] += (size_t)off;
+            is_judged(judge_of(places, spoilt, wide(2, 2)), spoilt, GAS_DAY_CAUSE_RECORD, &before);
+            is_judged(judge_of(places, day, wide(2, 2)), day, GAS_DAY_CAUSE_LENGTH, &before);
+            is_judged(judge_of(places, day, wide(1, 2)), day, GAS_DAY_CAUSE_LENGTH, &before);
+        }
+    }
+    is_judged(judge_of(right_lengths(), day, wide(1, 2)), day, GAS_DAY_CAUSE_JUDGED_SIGN, &before);
+}
+
+/* ---- an operator's own quantities, judged in the second hour of the L zone: each list in an excess, and with every sign turned in a shortfall */
+
+enum { JUDGED = 3 };
+static const int judged_places[JUDGED] = {1, 65, 66};
+
+typedef struct {
+    int64_t quantity[JUDGED]; /* of these places; every other has 0 */
+    uint64_t cause;
+} judged_list;
+
+/* With the other sign; the two ends of 64 bits, of which one has no such number, for each other. */
+static int64_t turned(int64_t number) { return number == INT64_MIN ? INT64_MAX : number == INT64_MAX ? INT64_MIN : -number; }
+
+/* The places come to these positions, all but 10 kWh of which stand in the table, and no other place comes to any; the market is held against this threshold. */
+static void lists_are_judged(gas_day_day day, const int64_t *positions, int64_t threshold, const judged_list *lists, size_t n) {
+    areas kept = lent;
+    for (int side = 1; side >= -1; side -= 2) {
+        gas_day_hour_terms terms = side == 1 ? terms_of(1, 2, threshold, 0, 20, 25) : terms_of(1, 2, 0, -threshold, 20, 25);
+        no_amounts();
+        memset(&lent.table[GAS_DAY_ZONE_PLACES], 0, GAS_DAY_ZONE_PLACES * sizeof *lent.table);
+        for (int i = 0; i < JUDGED; i++) {
+            lent.table[GAS_DAY_ZONE_PLACES + judged_places[i]] = side * positions[i] - 10;
+            lent.entry[judged_places[i]] = 15;
+            lent.exit[judged_places[i]] = -5;
+        }
+        for (size_t l = 0; l < n; l++) {
+            for (int g = 0; g < USERS; g++) lent.quantity[g] = 0;
+            for (int i = 0; i < JUDGED; i++) lent.quantity[judged_places[i]] = side == 1 ? lists[l].quantity[i] : turned(lists[l].quantity[i]);
+            judged(day, terms, lists[l].cause);
+        }
+    }
+    lent = kept;
+}
+
+/* Case A's positions: 5000000 kWh above the threshold, of which 3333333.33 and 1666666.67 are the exact shares. The third did not cause. */
+static void judged_case_a(gas_day_day day) {
+    static const int64_t positions[JUDGED] = {20000000, 10000000, -3000000};
+    static const judged_list lists[] = {
+        {{3333333, 1666667, 0}, GAS_DAY_ACCEPTED}, /* our own */
+        {{3333334, 1666666, 0}, GAS_DAY_ACCEPTED}, /* rounded in the other way */
+        {{3333333, 1666667, -1}, GAS_DAY_CAUSE_JUDGED_SIGN},
+        {{3333333, 1666666, 1}, GAS_DAY_CAUSE_JUDGED_SIGN}, /* the sum is right */
+        {{-3333333, -1666667, 0}, GAS_DAY_CAUSE_JUDGED_SIGN},
+        {{5000001, -1, 0}, GAS_DAY_CAUSE_JUDGED_SIGN}, /* of the second, before the first is off */
+        {{3333332, 1666668, 1}, GAS_DAY_CAUSE_JUDGED_SIGN},
+        {{INT64_MIN, 1666667, 0}, GAS_DAY_CAUSE_JUDGED_SIGN},
+        {{3333333, INT64_MIN, 0}, GAS_DAY_CAUSE_JUDGED_SIGN},
+        {{3333333, 1666667, INT64_MIN}, GAS_DAY_CAUSE_JUDGED_SIGN},
+        {{3333333, 1666667, INT64_MAX}, GAS_DAY_CAUSE_JUDGED_SIGN},
+        {{INT64_MAX, INT64_MAX, INT64_MAX}, GAS_DAY_CAUSE_JUDGED_SIGN},
+        {{3333332, 1666668, 0}, GAS_DAY_CAUSE_JUDGED_SHARE},
+        {{3333335, 1666665, 0}, GAS_DAY_CAUSE_JUDGED_SHARE},
+        {{3333333, 1666665, 0}, GAS_DAY_CAUSE_JUDGED_SHARE}, /* of the second, and the sum is wrong */
+        {{20000001, 1666667, 0}, GAS_DAY_CAUSE_JUDGED_SHARE}, /* more than its whole position */
+        {{0, 5000000, 0}, GAS_DAY_CAUSE_JUDGED_SHARE},
+        {{0, 0, 0}, GAS_DAY_CAUSE_JUDGED_SHARE},
+        {{INT64_MAX, 1666667, 0}, GAS_DAY_CAUSE_JUDGED_SHARE},
+        {{3333333, INT64_MAX, 0}, GAS_DAY_CAUSE_JUDGED_SHARE},
+        {{INT64_MAX, INT64_MAX, 0}, GAS_DAY_CAUSE_JUDGED_SHARE},
+        {{3333333, 1666666, 0}, GAS_DAY_CAUSE_JUDGED_SUM},
+        {{3333334, 1666667, 0}, GAS_DAY_CAUSE_JUDGED_SUM},
+    };
+    lists_are_judged(day, positions, 22000000, lists, sizeof lists / sizeof *lists);
+}
+
+/* The exact shares are whole, 2 and 1: so a list is right or at least 1 kWh off. Who stands at zero did not cause. */
+static void judged_whole_shares(gas_day_day day) {
+    static const int64_t positions[JUDGED] = {4, 2, 0};
+    static const judged_list lists[] = {
+        {{2, 1, 0}, GAS_DAY_ACCEPTED},
+        {{3, 0, 0}, GAS_DAY_CAUSE_JUDGED_SHARE},
+        {{1, 2, 0}, GAS_DAY_CAUSE_JUDGED_SHARE},
+        {{2, 0, 0}, GAS_DAY_CAUSE_JUDGED_SHARE},
+        {{2, 0, 1}, GAS_DAY_CAUSE_JUDGED_SIGN},
+    };
+    lists_are_judged(day, positions, 3, lists, sizeof lists / sizeof *lists);
+}
+
+/* Three times it is 2, if that is cut to 64 bits: 2 is the excess below, and the product that is right. */
+#define WRAPS INT64_C(6148914691236517206)
+
+/* Case B's positions, of each of which the exact share is 2/3: any two may have 1 kWh, and the third none, which is no wrong sign. */
+static void judged_case_b(gas_day_day day) {
+    static const int64_t positions[JUDGED] = {1, 1, 1};
+    static const judged_list lists[] = {
+        {{1, 1, 0}, GAS_DAY_ACCEPTED},
+        {{1, 0, 1}, GAS_DAY_ACCEPTED},
+        {{0, 1, 1}, GAS_DAY_ACCEPTED},
+        {{1, 1, 1}, GAS_DAY_CAUSE_JUDGED_SUM},
+        {{0, 0, 1}, GAS_DAY_CAUSE_JUDGED_SUM},
+        {{0, 0, 0}, GAS_DAY_CAUSE_JUDGED_SUM},
+        {{2, 0, 0}, GAS_DAY_CAUSE_JUDGED_SHARE},
+        {{WRAPS, 1, 0}, GAS_DAY_CAUSE_JUDGED_SHARE},
+        {{WRAPS, WRAPS, WRAPS}, GAS_DAY_CAUSE_JUDGED_SHARE},
+        {{1, 2, -1}, GAS_DAY_CAUSE_JUDGED_SIGN},
+    };
+    lists_are_judged(day, positions, 1, lists, sizeof lists / sizeof *lists);
+}
+
+/* A market at its threshold, where nobody caused. */
+static void judged_within(gas_day_day day) {
+    static const int64_t positions[JUDGED] = {5, -4, 2};
+    static const judged_list lists[] = {
+        {{0, 0, 0}, GAS_DAY_ACCEPTED},
+        {{1, 0, 0}, GAS_DAY_CAUSE_JUDGED_SIGN},
+        {{1, 0, -1}, GAS_DAY_CAUSE_JUDGED_SIGN}, /* they add to zero */
+        {{0, -1, 0}, GAS_DAY_CAUSE_JUDGED_SIGN},
+        {{0, 0, INT64_MIN}, GAS_DAY_CAUSE_JUDGED_SIGN},
+        {{INT64_MAX, 0, 0}, GAS_DAY_CAUSE_JUDGED_SIGN},
+    };
+    lists_are_judged(day, positions, 3, lists, sizeof lists / sizeof *lists);
+}
+
+/* A preview may be lent a table that cannot be written, and a judge nothing but such areas, and one more than once. Place 66 at 5 kWh: 2 above the upper threshold of 3. */
+static void areas_for_reading(void) {
+    static const int64_t table[GAS_DAY_TABLE_PLACES] = {0}, none[USERS] = {0}, entry[USERS] = {[66] = 5}, quantity[USERS] = {[66] = 2};
+    gas_day_day day = opened_day(GAS_DAY_LENGTH_USUAL);
+    gas_day_hour_terms terms = terms_of(1, 1, 3, 0, 20, 25);
+    no_amounts();
+    areas before = lent;
+    is_judged(gas_day_judge_hour(day, table, GAS_DAY_TABLE_PLACES, terms, entry, USERS, none, USERS, none, USERS, none, USERS, quantity, USERS), day,
+              GAS_DAY_ACCEPTED, &before);
+    is_judged(gas_day_judge_hour(day, table, GAS_DAY_TABLE_PLACES, terms, entry, USERS, none, USERS, none, USERS, none, USERS, entry, USERS), day,
+              GAS_DAY_CAUSE_JUDGED_SHARE, &before);
     lent.entry[66] = 5;
-    gas_day_hour seen = preview_from(table, right_lengths(), day, terms_of(1, 1, 3, 0, 20, 25));
+    gas_day_hour seen = preview_from(table, right_lengths(), day, terms);
     hour_is(seen, GAS_DAY_ACCEPTED, GAS_DAY_EXCESS, 2, 0, 4, 1);
     same_day(seen.day, day);
     for (int g = 0; g < USERS; g++) {
@@ -435,6 +598,8 @@ static void empty_areas(gas_day_day day) {
     gas_day_hour seen = gas_day_preview_hour(day, NULL, 0, wide(1, 2), NULL, 0, NULL, 0, NULL, 0, NULL, 0, NULL, 0, NULL, 0, NULL, 0, NULL, 0);
     IS(seen.cause, GAS_DAY_CAUSE_LENGTH);
     same_day(seen.day, day);
+    areas before = lent;
+    is_judged(gas_day_judge_hour(day, NULL, 0, wide(1, 2), NULL, 0, NULL, 0, NULL, 0, NULL, 0, NULL, 0), day, GAS_DAY_CAUSE_LENGTH, &before);
     gas_day_closing_terms terms = {1, 0, 0};
     gas_day_closing closing_answer = gas_day_close_zone(day, NULL, 0, terms, NULL, 0, NULL, 0);
     IS(closing_answer.cause, GAS_DAY_CAUSE_LENGTH);
@@ -640,8 +805,13 @@ int main(void) {
     limits_of_a_closing(day);
     records(day);
     lengths_of_a_preview(day);
+    lengths_of_a_judge(day);
+    judged_case_a(day);
+    judged_whole_shares(day);
+    judged_case_b(day);
+    judged_within(day);
     empty_areas(day);
-    table_for_reading();
+    areas_for_reading();
     files();
     written_files();
     printf("header: %d checks, %d wrong\n", checks, wrong);

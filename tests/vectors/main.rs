@@ -1,11 +1,12 @@
 //! Calls and what the ordinary settlement answers, one a line as JSON, for the test of a binding that is not written in Rust: openings, thresholds, whole days call by
-//! call, each hour after its preview, hours, previews and closings spoilt in every way, files, and writings. What a binding lends of its own (quantity, money, the positions
-//! after, scratch, the reader's lists, the writer's bytes) is always of the right length, or enough.
+//! call, each hour after its preview and after quantities are judged for it, hours, previews, judged hours and closings spoilt in every way, files, and writings. What a binding
+//! lends of its own (quantity, money, the positions after, scratch, the reader's lists, the writer's bytes) is always of the right length, or enough.
 
 use ordinary::made_up::{self, Kind};
 use ordinary::random::Random;
-use ordinary::spoilt::{closing_ways, fit_closing, fit_hour, hour_ways, Call};
+use ordinary::spoilt::{closing_ways, fit_closing, fit_hour, fit_judged, hour_ways, judged_ways, Call};
 use ordinary::spoilt_file::{fit_file, WAYS};
+use ordinary::spoilt_quantities::right_quantities;
 use ordinary::spoilt_writing::{fit_writing, Writing, WRITING_WAYS};
 use ordinary::{Day, Outcome, Side};
 
@@ -73,10 +74,14 @@ fn shown(outcome: &Outcome) -> (u64, i64, Vec<usize>) {
     }
 }
 
-/// What an hour and its preview are given, with lists for what they fill.
-fn given_hour(of: Of, call: &mut Call) -> String {
+/// Lists for what an hour and its preview fill.
+fn lend(call: &mut Call) {
     let users = call.amounts.entry.len();
     (call.quantity, call.money, call.after, call.scratch) = (vec![0; users], vec![0; users], vec![0; users], vec![0; users]);
+}
+
+/// What an hour and its preview are given, and a judge besides the quantities.
+fn given_hour(of: Of, call: &Call) -> String {
     let (given, a) = (given(of, call), &call.amounts);
     let terms = format!(r#""hour": {}, "upper": {}, "lower": {}"#, call.hour, a.terms.upper, a.terms.lower);
     let lists = format!(r#""entry": {:?}, "exit": {:?}, "title": {:?}, "pooling": {:?}"#, a.entry, a.exit, a.title, a.pooling);
@@ -90,15 +95,25 @@ fn answered(answer: Result<Outcome, u64>) -> String {
 }
 
 fn hour(of: Of, call: &mut Call) {
+    lend(call);
     let given = given_hour(of, call);
     let answered = answered(call.settle());
     println!(r#"{{"call": "settle_hour", {given}, {answered}, {}}}"#, lent(call));
 }
 
 fn preview(of: Of, call: &mut Call) {
+    lend(call);
     let given = given_hour(of, call);
     let answered = answered(call.preview());
     println!(r#"{{"call": "preview_hour", {given}, {answered}, {}, "after": {:?}}}"#, lent(call), call.after);
+}
+
+/// The quantities are given, and nothing is filled.
+fn judge(of: Of, call: &mut Call) {
+    let given = given_hour(of, call);
+    let cause = call.judge().err().unwrap_or(0);
+    let after = format!(r#""day_after": {}, "table_after": {:?}"#, record(&call.day), call.table);
+    println!(r#"{{"call": "judge_hour", {given}, "quantity": {:?}, "cause": {cause}, {after}}}"#, call.quantity);
 }
 
 fn closing(of: Of, call: &mut Call) {
@@ -135,7 +150,30 @@ fn previewed_hour(of: Of, call: &mut Call) {
     hour(of, call);
 }
 
-/// A whole day: all hours of both zones, mixed and of every kind, spoilt ones among them, each after its preview; closings that come too early, in time and twice.
+/// Quantities that are right, if the hour is fit; now and then one of them is changed by a kWh, or turned.
+fn operators(random: &mut Random, call: &Call) -> Vec<i64> {
+    let mut quantity = match call.clone().settle() {
+        Ok(_) => right_quantities(random, call),
+        Err(_) => vec![0; call.quantity.len()],
+    };
+    let place = random.below(quantity.len());
+    match random.below(4) {
+        0 => quantity[place] += random.pick([1, -1]),
+        1 => quantity[place] = -quantity[place],
+        _ => (),
+    }
+    quantity
+}
+
+fn judged_hour(random: &mut Random, of: Of, call: &mut Call) {
+    lend(call);
+    call.quantity = operators(random, call);
+    judge(of, call);
+    previewed_hour(of, call);
+}
+
+/// A whole day: all hours of both zones, mixed and of every kind, spoilt ones among them, each after its preview and after quantities are judged for it; closings that come too
+/// early, in time and twice.
 fn day(random: &mut Random, users: usize, length: i64) {
     opening(users as i64, length);
     let mut table = vec![0; 256];
@@ -154,7 +192,7 @@ fn day(random: &mut Random, users: usize, length: i64) {
         if random.one_in(8) {
             closing(Of::Day, &mut call);
         } else {
-            previewed_hour(Of::Day, &mut call);
+            judged_hour(random, Of::Day, &mut call);
         }
     }
     closing(Of::Day, &mut call);
@@ -174,6 +212,11 @@ fn main() {
             let mut call = fit_hour(&mut random, zone);
             (way.spoil)(&mut random, &mut call);
             previewed_hour(Of::Nothing, &mut call);
+        }
+        for way in judged_ways() {
+            let mut call = fit_judged(&mut random, zone);
+            (way.spoil)(&mut random, &mut call);
+            judge(Of::Nothing, &mut call);
         }
         for way in closing_ways() {
             let mut call = fit_closing(&mut random, zone);

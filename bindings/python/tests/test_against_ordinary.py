@@ -15,6 +15,7 @@ CAUSES = {
     "default_thresholds": [0, 4, 8],
     "settle_hour": [0, *range(2, 12)],
     "preview_hour": [0, *range(2, 12)],
+    "judge_hour": [0, *range(2, 12), 22, 23, 24],
     "close_zone": [0, *range(2, 9)],
     "read_hour_file": [0, *range(13, 18)],
     "write_hour_file": [0, 18, 19],
@@ -69,6 +70,11 @@ class AgainstOrdinary(unittest.TestCase):
     def preview_hour(self, vector):
         self.on_day(vector, gas_day.HourPreview(self.outcome(vector), vector["quantity"], vector["money"], vector["after"]), *self.hour(vector))
 
+    def judge_hour(self, vector):
+        """Accepted, it answers nothing."""
+        terms, lists = self.hour(vector)
+        self.on_day(vector, None, terms, {**lists, "quantity": vector["quantity"]})
+
     def close_zone(self, vector):
         self.on_day(vector, gas_day.ClosingDone(*self.left(vector), vector["sold"], vector["bought"], vector["quantity"], vector["money"]), (vector["zone"],))
 
@@ -80,12 +86,12 @@ class AgainstOrdinary(unittest.TestCase):
         return Outcome(Side(vector["side"]), vector["total"], vector["causers"])
 
     def hour(self, vector):
-        """What an hour and its preview are told, and their lists."""
+        """What an hour, its preview and its judge are told, and their amounts."""
         terms = (vector["zone"], vector["hour"], Thresholds(vector["upper"], vector["lower"]))
         return terms, {kind: vector[kind] for kind in LISTS}
 
     def on_day(self, vector, accepted, terms, lists={}):
-        """An hour, its preview or a closing: by the function, from lists and from arrays; and by the day, if it goes on with it."""
+        """An hour, its preview, its judge or a closing: by the function, from lists and from arrays; and by the day, if it goes on with it."""
         call, before = vector["call"], (record(vector["day"]), vector["table"])
         prices = {price: vector[price] for price in ("excess_price", "shortfall_price")}
         expected = (vector["cause"], call) if vector["cause"] else accepted

@@ -9,7 +9,7 @@ from functools import partial
 
 import gas_day
 from gas_day import Day, GasDay, HourFile, State, Thresholds, Zone, ZoneDay
-from worked import FILE_A, NONE, PRICES, closing_of, hour_of, idle_hour, idle_preview, preview_of, written
+from worked import FILE_A, NONE, PRICES, closing_of, hour_of, idle_hour, idle_judge, idle_preview, judge_of, preview_of, written
 
 NOT_WHOLE = [1.0, 0.5, float("nan"), None, "1", b"1", Decimal(1), Fraction(1), 1j, [1], object()]
 BEYOND = [2**63, -(2**63) - 1, 2**64, 2**64 + 1, -(2**64), 10**30]
@@ -26,7 +26,8 @@ class Index:
         return self.number
 
 
-# Every place where an hour takes one number, and so its preview: the cause for the numbers at the ends of 64 bits, and the call, which is given hour_of or preview_of.
+# Every place where an hour takes one number, and so do its preview and its judge: the cause for the numbers at the ends of 64 bits, and the call, which is given hour_of,
+# preview_of or judge_of.
 PLACES_OF_AN_HOUR = {
     "zone": (4, lambda of, x: of(zone=x)),
     "hour": (6, lambda of, x: of(hour=x)),
@@ -51,6 +52,8 @@ PLACES_OF_AN_HOUR = {
 PLACES = {
     **{name: (cause, partial(call, hour_of)) for name, (cause, call) in PLACES_OF_AN_HOUR.items()},
     **{f"{name} of a preview": (cause, partial(call, preview_of)) for name, (cause, call) in PLACES_OF_AN_HOUR.items()},
+    **{f"{name} of a judge": (cause, partial(call, judge_of)) for name, (cause, call) in PLACES_OF_AN_HOUR.items()},
+    "a judged quantity": (22, lambda x: judge_of(quantity=[0, x])),
     "users": (1, lambda x: gas_day.open_day(x, 24)),
     "users of a GasDay": (1, lambda x: GasDay(x, 24)),
     "length": (21, lambda x: gas_day.open_day(2, x)),
@@ -60,6 +63,8 @@ PLACES = {
     "an entry of a GasDay": (9, lambda x: idle_hour(GasDay(2, 24), 0, 1, entry=[0, x])),
     "an exit of a GasDay's preview": (9, lambda x: idle_preview(GasDay(2, 24), 0, 1, exit=[0, x])),
     "hour of a GasDay's preview": (6, lambda x: idle_preview(GasDay(2, 24), 0, x)),
+    "a title amount of a GasDay's judge": (9, lambda x: idle_judge(GasDay(2, 24), 0, 1, title=[x, 0])),
+    "a quantity of a GasDay's judge": (22, lambda x: idle_judge(GasDay(2, 24), 0, 1, quantity=[x, 0])),
     "a pooling amount of a file": (9, lambda x: GasDay(1, 24).settle_file(HourFile(1, 0, [0], [0], [0], [x]), NONE, **PRICES)),
     "hour of a file": (6, lambda x: GasDay(1, 24).settle_file(HourFile(x, 0, [0], [0], [0], [0]), NONE, **PRICES)),
     "closing's zone": (4, lambda x: closing_of(zone=x)),
@@ -151,9 +156,11 @@ class Lists(unittest.TestCase):
     def test_what_is_no_list(self):
         wrong = [None, 3, 1.5, "12", b"12", bytearray(2), memoryview(b"12"), {0, 1}, {0: 1, 1: 2}, iter([0, 0]), range(2), object()]
         for given in wrong:
-            for kind, of in itertools.product(("entry", "exit", "title", "pooling", "table"), (hour_of, preview_of)):
+            for kind, of in itertools.product(("entry", "exit", "title", "pooling", "table"), (hour_of, preview_of, judge_of)):
                 with self.subTest(kind=kind, given=given), self.assertRaises(TypeError):
                     of(**{kind: given} if given is not None or kind != "table" else {"table": 0})
+            with self.subTest(judged=given), self.assertRaises(TypeError):
+                judge_of(quantity=given)
             for kind in ("entry", "exit", "title", "pooling"):
                 with self.subTest(written=kind, given=given), self.assertRaises(TypeError):
                     written(**{kind: given})
@@ -181,14 +188,15 @@ class Lists(unittest.TestCase):
         self.assertEqual(hour_of(title=Other("q", [1, 2])).quantity, [1, 2])
 
     def test_of_every_length_but_the_users(self):
-        for kind, of in itertools.product(("entry", "exit", "title", "pooling"), (hour_of, preview_of)):
+        kinds = itertools.product(("entry", "exit", "title", "pooling"), (hour_of, preview_of, judge_of))
+        for kind, of in (*kinds, ("quantity", judge_of)):
             for length in (0, 1, 3, 128, 129, 1000):
                 for given in ([0] * length, array("q", [0] * length)):
                     with self.subTest(kind=kind, length=length), self.assertRaises(gas_day.Refusal) as refused:
                         of(**{kind: given})
                     self.assertEqual(refused.exception.number, 3)
         for length in (0, 1, 128, 255, 257, 512):
-            for call in (hour_of, preview_of, closing_of):
+            for call in (hour_of, preview_of, judge_of, closing_of):
                 with self.subTest(length=length), self.assertRaises(gas_day.Refusal) as refused:
                     call(table=[0] * length)
                 self.assertEqual(refused.exception.number, 3)
@@ -210,7 +218,7 @@ class Lists(unittest.TestCase):
 class OtherTypes(unittest.TestCase):
     def test_record_thresholds_and_files(self):
         for wrong in (None, (2, (0, 0), (0, 0)), {"users": 2}, ZoneDay()):
-            for of in (hour_of, preview_of):
+            for of in (hour_of, preview_of, judge_of):
                 with self.assertRaises(TypeError):
                     of(wrong)
             with self.assertRaises(TypeError):
@@ -222,7 +230,7 @@ class OtherTypes(unittest.TestCase):
             with self.assertRaises(TypeError):
                 GasDay(2, 24).settle_file(wrong, NONE, **PRICES)
         for wrong in (None, 0, (0, 0), Day(2, 24)):
-            for of in (hour_of, preview_of):
+            for of in (hour_of, preview_of, judge_of):
                 with self.assertRaises(TypeError):
                     of(Day(2, 24, wrong))
                 with self.assertRaises(TypeError):
@@ -245,6 +253,10 @@ class OtherTypes(unittest.TestCase):
             GasDay(1, 24).preview_hour(Zone.H, 1, NONE, 0, 0, [0], [0], [0], [0])
         with self.assertRaises(TypeError):
             gas_day.preview_hour(Day(1, 24), 256 * [0], Zone.H, 1, NONE, 0, 0, [0], [0], [0], [0])
+        with self.assertRaises(TypeError):
+            GasDay(1, 24).judge_hour(Zone.H, 1, NONE, 0, 0, [0], [0], [0], [0], [0])
+        with self.assertRaises(TypeError):
+            gas_day.judge_hour(Day(1, 24), 256 * [0], Zone.H, 1, NONE, 0, 0, [0], [0], [0], [0], [0])
         with self.assertRaises(TypeError):
             gas_day.write_hour_file(1, Zone.H, [0], [0], [0], [0])
 

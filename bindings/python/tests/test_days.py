@@ -10,7 +10,7 @@ from array import array
 
 import gas_day
 from gas_day import Day, GasDay, HourFile, HourPreview, Outcome, Refusal, Side, State, Thresholds, Zone, ZoneDay
-from worked import ENTRY, EXIT, FILE_A, FILE_A_IN_MWH, HEADER, PRICES, WIDE, amounts, case_a, idle_hour, idle_preview
+from worked import ENTRY, EXIT, FILE_A, FILE_A_IN_MWH, HEADER, NONE, PRICES, WIDE, amounts, case_a, idle_hour, idle_judge, idle_preview
 
 
 class CaseA(unittest.TestCase):
@@ -88,6 +88,20 @@ class CaseA(unittest.TestCase):
         self.assertEqual((day.state, opened, given), (gas_day.open_day(3, 24), gas_day.open_day(3, 24), case_a()[2]))
         self.check(day, day.settle_hour(*hour, **given))
 
+    def test_judged(self):
+        """Our own quantities, and the same rounded in the other way: by a day and by the function, from lists, tuples and arrays. Nothing that is given is changed."""
+        day, hour, given = case_a()
+        opened = gas_day.open_day(3, 24)
+        for quantity in ([3_333_333, 1_666_667, 0], [3_333_334, 1_666_666, 0]):
+            for judged in (quantity, tuple(quantity), array("q", quantity), array("i", quantity)):
+                before = copy.copy(judged)
+                self.assertIsNone(day.judge_hour(*hour, **given, quantity=judged))
+                self.assertIsNone(gas_day.judge_hour(opened.day, opened.table, *hour, **given, quantity=judged))
+                self.assertIsNone(gas_day.judge_hour(opened.day, array("q", opened.table), *hour, **given, quantity=judged))
+                self.assertEqual(judged, before)
+        self.assertEqual((day.state, opened, given), (gas_day.open_day(3, 24), gas_day.open_day(3, 24), case_a()[2]))
+        self.check(day, day.settle_hour(*hour, **given))
+
     def test_shown(self):
         day, hour, given = case_a()
         seen = day.preview_hour(*hour, **given)
@@ -132,16 +146,17 @@ class Documentation(unittest.TestCase):
     def test_its_examples(self):
         found = doctest.testmod(gas_day)
         self.assertEqual(found.failed, 0)
-        self.assertGreaterEqual(found.attempted, 22)
+        self.assertGreaterEqual(found.attempted, 27)
 
 
 class WholeDay(unittest.TestCase):
     """67 users, so that causers stand in both words of marks."""
 
     def settled(self, day, *terms, **given):
-        """The hour, settled after its preview, which gives the same and leaves the day."""
+        """The hour, settled after its preview, which gives the same, and after a judge, which accepts the preview's quantities; both leave the day."""
         before = day.state
         seen = day.preview_hour(*terms, **given)
+        self.assertIsNone(day.judge_hour(*terms, **given, quantity=seen.quantity))
         self.assertEqual(day.state, before)
         done = day.settle_hour(*terms, **given)
         self.assertEqual(seen, HourPreview(done.outcome, done.quantity, done.money, day.positions(terms[0])))
@@ -184,7 +199,7 @@ class WholeDay(unittest.TestCase):
                 self.assertEqual(done.outcome, Outcome(Side.WITHIN, 0, []))
                 self.assertEqual(done.quantity, 67 * [0])
         self.assertEqual(day.record, Day(67, length, ZoneDay(length, False), ZoneDay(length, False)))
-        for idle in (idle_preview, idle_hour):
+        for idle in (idle_preview, idle_judge, idle_hour):
             with self.assertRaises(Refusal) as refused:
                 idle(day, Zone.H, length + 1)
             self.assertEqual(refused.exception.number, 6)
@@ -315,9 +330,23 @@ class Turns(unittest.TestCase):
         numbers = self.second_while_the_first_is_under_way(day, "gas_day_preview_hour", look, hour)
         self.assertEqual((numbers, seen, day.positions(Zone.H), day.record.h.hours), ([], [[7]], [5], 1))
 
+    def test_a_judge_waits_for_no_hour(self):
+        """It judges on the day as it stands, on which 7 kWh are all that there is."""
+        day, seen = GasDay(1, 24), []
+        hour, look = lambda: idle_hour(day, Zone.H, 1, entry=[5]), lambda: seen.append(idle_judge(day, Zone.H, 1, NONE, [7], entry=[7]))
+        numbers = self.second_while_the_first_is_under_way(day, "gas_day_settle_hour", hour, look)
+        self.assertEqual((numbers, seen, day.positions(Zone.H)), ([], [None], [5]))
+
+    def test_no_hour_waits_for_a_judge(self):
+        """And none is undone by it."""
+        day, seen = GasDay(1, 24), []
+        hour, look = lambda: idle_hour(day, Zone.H, 1, entry=[5]), lambda: seen.append(idle_judge(day, Zone.H, 1, NONE, [7], entry=[7]))
+        numbers = self.second_while_the_first_is_under_way(day, "gas_day_judge_hour", look, hour)
+        self.assertEqual((numbers, seen, day.positions(Zone.H), day.record.h.hours), ([], [None], [5], 1))
+
     def test_an_argument_that_uses_the_day(self):
         """The hour that it settles comes first, and then its own is refused: nothing waits for itself."""
-        for idle in (idle_hour, idle_preview):
+        for idle, kind in ((idle_hour, "entry"), (idle_preview, "entry"), (idle_judge, "entry"), (idle_judge, "quantity")):
             day = GasDay(1, 24)
 
             class Settles:
@@ -326,7 +355,7 @@ class Turns(unittest.TestCase):
                     return 7
 
             with self.assertRaises(Refusal) as refused:
-                idle(day, Zone.H, 1, entry=[Settles()])
+                idle(day, Zone.H, 1, **{kind: [Settles()]})
             self.assertEqual((refused.exception.number, day.positions(Zone.H)), (6, [5]))
 
 

@@ -3,10 +3,11 @@
 import pickle
 import unittest
 from ctypes import c_int64
+from functools import partial
 
 import gas_day
 from gas_day import Cause, GasDay, Refusal, State, Thresholds, Zone
-from worked import FILE_A, NONE, PRICES, REFUSED, amounts, case_a, idle_hour, idle_preview
+from worked import FILE_A, NONE, PRICES, REFUSED, amounts, case_a, idle_hour, idle_judge, idle_preview
 
 
 class EveryCause(unittest.TestCase):
@@ -44,7 +45,7 @@ class EveryCause(unittest.TestCase):
         self.assertEqual(refused.exception.number, 20)
 
     def test_words_and_names(self):
-        self.assertEqual([int(cause) for cause in Cause], list(range(1, 22)))
+        self.assertEqual([int(cause) for cause in Cause], list(range(1, 25)))
         self.assertEqual(Cause.POOLING.words, "pooling amounts do not add to zero")
         self.assertEqual(str(Refusal("close_zone", Cause.CLOSED)), "close_zone refused by cause 5: zone closed")
 
@@ -53,7 +54,7 @@ class EveryCause(unittest.TestCase):
         exec("from gas_day import *", names)
         public = {name for name in vars(gas_day) if name[0].isupper() and getattr(vars(gas_day)[name], "__module__", "gas_day") == "gas_day"}
         self.assertEqual(public - {"Numbers"} - set(names), set())
-        calls = {"open_day", "default_thresholds", "settle_hour", "preview_hour", "close_zone", "read_hour_file", "write_hour_file"}
+        calls = {"open_day", "default_thresholds", "settle_hour", "preview_hour", "judge_hour", "close_zone", "read_hour_file", "write_hour_file"}
         self.assertLessEqual(calls, set(names))
 
     def test_can_be_stored(self):
@@ -73,9 +74,11 @@ class LeavesTheDayAsItWas(unittest.TestCase):
         self.assertEqual(refused.exception.number, number)
         self.assertEqual(self.day.state, before)
 
-    def test_every_cause_of_an_hour_and_of_its_preview(self):
-        day = self.day
-        for call, idle in ((day.settle_hour, idle_hour), (day.preview_hour, idle_preview)):
+    def test_every_cause_of_an_hour_of_its_preview_and_of_its_judge(self):
+        """The judge's quantities are wrong too, which comes last."""
+        day, wrong = self.day, {"quantity": [77, 77, 77]}
+        calls = ((day.settle_hour, idle_hour), (day.preview_hour, idle_preview), (partial(day.judge_hour, **wrong), partial(idle_judge, **wrong)))
+        for call, idle in calls:
             self.refused(3, lambda: call(0, 2, NONE, **PRICES, **amounts(4)))
             self.refused(4, lambda: idle(day, 2, 2))
             self.refused(6, lambda: idle(day, 0, 1))
@@ -84,7 +87,17 @@ class LeavesTheDayAsItWas(unittest.TestCase):
             self.refused(9, lambda: idle(day, 0, 2, entry=[0, -1, 0]))
             self.refused(10, lambda: idle(day, 0, 2, pooling=[0, 0, 5]))
             self.refused(11, lambda: idle(day, 0, 2, title=[50_000_000, 0, 0], entry=[50_000_000, 0, 0]))
+        self.refused(3, lambda: idle_judge(day, 2, 2, quantity=[0, 0]))
+        self.refused(22, lambda: idle_judge(day, 0, 2, **wrong))
         self.assertEqual(idle_hour(day, 0, 2).day.h.hours, 2)
+
+    def test_every_cause_of_quantities(self):
+        """The users stand at 16666667, 8333333 and -3000000: of 5 kWh above a threshold the exact shares are 3.33 and 1.67."""
+        judge = partial(idle_judge, self.day, 0, 2, Thresholds(21_999_995, 0))
+        for number, quantity in ((22, [3, 1, 1]), (22, [6, -1, 0]), (23, [5, 0, 0]), (23, [3, 0, 0]), (24, [3, 1, 0]), (24, [4, 2, 0])):
+            self.refused(number, lambda: judge(quantity=quantity))
+        for quantity in ([3, 2, 0], [4, 1, 0]):
+            self.assertIsNone(judge(quantity=quantity))
 
     def test_every_cause_of_a_closing(self):
         day = self.day
@@ -97,6 +110,7 @@ class LeavesTheDayAsItWas(unittest.TestCase):
         self.refused(5, lambda: day.close_zone(0, **PRICES))
         self.refused(5, lambda: idle_hour(day, 0, 24))
         self.refused(5, lambda: idle_preview(day, 0, 24))
+        self.refused(5, lambda: idle_judge(day, 0, 24))
         self.refused(6, lambda: idle_hour(day, Zone.L, 2))
 
     def test_a_zone_that_is_none(self):
@@ -107,19 +121,21 @@ class LeavesTheDayAsItWas(unittest.TestCase):
 
     def test_a_day_that_no_opening_opened(self):
         self.day = GasDay.resume(State(self.day.record, 256 * [1]))
-        for idle in (idle_hour, idle_preview):
+        for idle in (idle_hour, idle_preview, idle_judge):
             self.refused(7, lambda: idle(self.day, 0, 2))
             self.refused(7, lambda: idle(self.day, Zone.L, 1))
         self.day = GasDay.resume(State(self.day.record, 255 * [0]))
-        for idle in (idle_hour, idle_preview):
+        for idle in (idle_hour, idle_preview, idle_judge):
             self.refused(3, lambda: idle(self.day, 0, 2))
 
     def test_a_wrong_argument(self):
         before = self.day.state
         for wrong, error in ((1.0, TypeError), (None, TypeError), ("1", TypeError), (2**63, OverflowError)):
-            for idle in (idle_hour, idle_preview):
+            for idle in (idle_hour, idle_preview, idle_judge):
                 with self.assertRaises(error):
                     idle(self.day, 0, 2, entry=[0, 0, wrong])
+            with self.assertRaises(error):
+                idle_judge(self.day, 0, 2, quantity=[0, 0, wrong])
             with self.assertRaises(error):
                 self.day.close_zone(0, excess_price=wrong, shortfall_price=0)
             self.assertEqual(self.day.state, before)

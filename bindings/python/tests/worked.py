@@ -10,6 +10,7 @@ from gas_day import (
     ZoneDay,
     close_zone,
     default_thresholds,
+    judge_hour,
     open_day,
     preview_hour,
     read_hour_file,
@@ -41,9 +42,21 @@ def idle_preview(day, zone, hour, thresholds=WIDE, **given):
     return day.preview_hour(zone, hour, thresholds, **PRICES, **amounts(day.record.users, **given))
 
 
+def idle_judge(day, zone, hour, thresholds=WIDE, quantity=None, **given):
+    """The same, judged: zeros, if no quantities are given."""
+    users = day.record.users
+    return day.judge_hour(zone, hour, thresholds, **PRICES, **amounts(users, **given), quantity=[0] * users if quantity is None else quantity)
+
+
 def case_a():
     """The day of case A before its hour, and what its hour is given."""
     return GasDay(3, 24), (Zone.H, 1, default_thresholds(1, Zone.H)), {**PRICES, **amounts(3, entry=ENTRY, exit=EXIT)}
+
+
+def case_a_judged(quantity):
+    """The quantities of its hour: of 5000000 kWh the exact shares are 3333333.33 and 1666666.67, and the third user did not cause."""
+    day, hour, given = case_a()
+    return judge_hour(day.record, day.state.table, *hour, **given, quantity=quantity)
 
 
 def hour_of(record=Day(2, 24), table=None, zone=Zone.H, hour=1, thresholds=NONE, prices=None, call=settle_hour, **given):
@@ -52,6 +65,11 @@ def hour_of(record=Day(2, 24), table=None, zone=Zone.H, hour=1, thresholds=NONE,
 
 
 preview_of = partial(hour_of, call=preview_hour)
+
+
+def judge_of(*record_and_table, quantity=(77, 77), **given):
+    """Quantities that nobody caused, if none are given: so whatever refuses the hour comes before them."""
+    return hour_of(*record_and_table, call=partial(judge_hour, quantity=quantity), **given)
 
 
 def closing_of(record=Day(2, 24, ZoneDay(24)), table=None, zone=Zone.H, prices=None):
@@ -70,7 +88,7 @@ def table_with(place, position):
 
 PRICE_TOO_HIGH = {"excess_price": 10_000_001, "shortfall_price": 0}
 
-# Number, and the call, of which it is given the one or the other: hour_of or preview_of.
+# Number, and the call, of which it is given one or another: hour_of, preview_of or judge_of.
 REFUSED_HOURS = [
     (2, lambda of: of(Day(129, 24))),
     (2, lambda of: of(Day(2, 22))),
@@ -107,6 +125,26 @@ REFUSED_HOURS = [
     (11, lambda of: of(entry=[50_000_000, 0], title=[50_000_000, 0], pooling=[1, -1])),
 ]
 
+# Number, and quantities for case A's hour.
+REFUSED_QUANTITIES = [
+    (3, []),
+    (3, [3_333_333, 1_666_667]),
+    (3, [3_333_333, 1_666_667, 0, 0]),
+    (22, [3_333_333, 1_666_667, -1]),
+    (22, [3_333_333, 1_666_666, 1]),
+    (22, [-3_333_333, -1_666_667, 0]),
+    (22, [5_000_001, -1, 0]),
+    (22, [3_333_333, -(2**63), 0]),
+    (22, [2**63 - 1, 2**63 - 1, 2**63 - 1]),
+    (23, [3_333_332, 1_666_668, 0]),
+    (23, [3_333_333, 1_666_665, 0]),
+    (23, [0, 5_000_000, 0]),
+    (23, [0, 0, 0]),
+    (23, [2**63 - 1, 1_666_667, 0]),
+    (24, [3_333_333, 1_666_666, 0]),
+    (24, [3_333_334, 1_666_667, 0]),
+]
+
 # Number, name of the call, and the call.
 REFUSED = [
     (1, "open_day", lambda: open_day(0, 24)),
@@ -120,6 +158,10 @@ REFUSED = [
     (8, "default_thresholds", lambda: default_thresholds(0, Zone.L)),
     *((number, "settle_hour", partial(call, hour_of)) for number, call in REFUSED_HOURS),
     *((number, "preview_hour", partial(call, preview_of)) for number, call in REFUSED_HOURS),
+    *((number, "judge_hour", partial(call, judge_of)) for number, call in REFUSED_HOURS),
+    *((number, "judge_hour", partial(case_a_judged, quantity)) for number, quantity in REFUSED_QUANTITIES),
+    (22, "judge_hour", lambda: judge_of(quantity=[1, -1])),
+    (23, "judge_hour", lambda: judge_of(entry=[4, 2], thresholds=Thresholds(3, 0), quantity=[3, 0])),
     (2, "close_zone", lambda: closing_of(Day(0, 24, ZoneDay(24)))),
     (2, "close_zone", lambda: closing_of(Day(2**63 - 1, 24, ZoneDay(24)))),
     (3, "close_zone", lambda: closing_of(table=[0] * 257)),

@@ -27,6 +27,12 @@ pub struct Hour {
 }
 
 #[repr(C)]
+pub struct Judged {
+    pub cause: u64,
+    pub day: Day,
+}
+
+#[repr(C)]
 pub struct Closing {
     pub cause: u64,
     pub day: Day,
@@ -94,6 +100,22 @@ extern "C" {
         scratch: *mut u64,
         scratch_places: usize,
     ) -> Hour;
+    pub fn gas_day_judge_hour(
+        day: Day,
+        table: *const i64,
+        table_places: usize,
+        terms: HourTerms,
+        entry: *const i64,
+        entry_places: usize,
+        exit: *const i64,
+        exit_places: usize,
+        title: *const i64,
+        title_places: usize,
+        pooling: *const i64,
+        pooling_places: usize,
+        quantity: *const i64,
+        quantity_places: usize,
+    ) -> Judged;
     pub fn gas_day_close_zone(
         day: Day,
         table: *mut i64,

@@ -3,8 +3,8 @@ use std::fmt;
 
 /// Why a call was turned away: the first cause that applies, in the order of their numbers, but for 21, which comes after 1 and before 3.
 ///
-/// Its number is `cause as u64` or [`Cause::number`], its words are those of the requirements (of 2, 6 and 21 made of them, since the day has a length), and it prints as
-/// both.
+/// Its number is `cause as u64` or [`Cause::number`], its words are those of the requirements (of 2, 6 and 21 made of them, since the day has a length; 23 has "a quantity"
+/// for their "one"), and it prints as both.
 ///
 /// ```
 /// use gas_day::Cause;
@@ -60,6 +60,12 @@ pub enum Cause {
     WriteRoom = 20,
     /// Opening: length not 23, 24 or 25.
     DayLength = 21,
+    /// A user who did not cause has a quantity or a causer's has the wrong sign.
+    JudgedSign = 22,
+    /// A quantity is 1 kWh or more off.
+    JudgedShare = 23,
+    /// The sum is wrong.
+    JudgedSum = 24,
 }
 
 impl Cause {
@@ -86,6 +92,9 @@ impl Cause {
         Cause::WriteNumber,
         Cause::WriteRoom,
         Cause::DayLength,
+        Cause::JudgedSign,
+        Cause::JudgedShare,
+        Cause::JudgedSum,
     ];
 
     /// The cause's number in the requirements.
@@ -131,6 +140,9 @@ impl Cause {
             Cause::WriteNumber => "the hour or an amount has more than nine digits or the hour is negative",
             Cause::WriteRoom => "the lent bytes are too few",
             Cause::DayLength => "opening: length not 23, 24 or 25",
+            Cause::JudgedSign => "a user who did not cause has a quantity or a causer's has the wrong sign",
+            Cause::JudgedShare => "a quantity is 1 kWh or more off",
+            Cause::JudgedSum => "the sum is wrong",
         }
     }
 }

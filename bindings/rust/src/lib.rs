@@ -1,5 +1,6 @@
-//! The hourly balancing settlement of a gas market, recomputed: opening a Gas Day, default thresholds, settling an hour and previewing one, closing a zone, and reading and
-//! writing an hour's file. The calls are those of a library that is proved to give exactly the answer that the requirements define, for every input.
+//! The hourly balancing settlement of a gas market, recomputed: opening a Gas Day, default thresholds, settling an hour, previewing one and judging an operator's quantities
+//! for one, closing a zone, and reading and writing an hour's file. The calls are those of a library that is proved to give exactly the answer that the requirements define,
+//! for every input.
 //!
 //! A call may be given anything. It is refused with the first [`Cause`] that applies, and then everything lent is as it was; or it is accepted, and then the answer and
 //! everything lent are what the rules name. No call keeps anything, so calls may run in parallel, each on areas of its own. A call panics only if the library that was
@@ -419,6 +420,50 @@ pub fn preview_hour(
     };
     accepted(seen.cause)?;
     Ok(outcome(&seen))
+}
+
+/// Judges an operator's own quantities for an hour, which may be rounded in another way than those of [`settle_hour`] and still be right; those are accepted too. They have
+/// to add to the excess, or to minus the shortfall, or to zero if there is neither; only causers have any, with the right sign, and each is less than 1 kWh from the exact
+/// share. Everything is only read. The table has 256 places; every list has as many as the record has users. Causes 2 to 11, as of an hour; then 22, 23 and 24, each
+/// looked at for every user before the next.
+///
+/// ```
+/// use gas_day::*;
+/// let mut table = [0; limits::TABLE_PLACES];
+/// let day = open(3, 24, &mut table).unwrap();
+/// let terms = HourTerms { zone: 0, hour: 1, upper: 1, lower: 0, excess_price: 20_000, shortfall_price: 25_000 };
+/// let amounts = Amounts { entry: &[1; 3], exit: &[0; 3], title: &[0; 3], pooling: &[0; 3] };
+/// let judge = |quantity: &[i64]| judge_hour(&day, &table, terms, amounts, quantity);
+///
+/// assert_eq!(judge(&[1, 1, 0]), Ok(())); // as the hour is settled: an excess of 2, of which each share is 2/3
+/// assert_eq!(judge(&[0, 1, 1]), Ok(()));
+/// assert_eq!(judge(&[2, 1, -1]), Err(Cause::JudgedSign));
+/// assert_eq!(judge(&[2, 0, 0]), Err(Cause::JudgedShare));
+/// assert_eq!(judge(&[1, 1, 1]), Err(Cause::JudgedSum));
+/// ```
+pub fn judge_hour(day: &Day, table: &[i64], terms: HourTerms, amounts: Amounts<'_>, quantity: &[i64]) -> Result<(), Cause> {
+    look_at_version();
+    let Amounts { entry, exit, title, pooling } = amounts;
+    // SAFETY: above.
+    let judged = unsafe {
+        boundary::gas_day_judge_hour(
+            *day,
+            table.as_ptr(),
+            table.len(),
+            terms,
+            entry.as_ptr(),
+            entry.len(),
+            exit.as_ptr(),
+            exit.len(),
+            title.as_ptr(),
+            title.len(),
+            pooling.as_ptr(),
+            pooling.len(),
+            quantity.as_ptr(),
+            quantity.len(),
+        )
+    };
+    accepted(judged.cause)
 }
 
 /// Closes a zone after all hours of its day: fills quantity and money with each user's whole position and its price, sets the zone's places to zero and marks the zone closed in

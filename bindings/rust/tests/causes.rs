@@ -4,7 +4,7 @@ use gas_day::limits::{FILE_PLACES, TABLE_PLACES, WRITE_BYTES_MOST};
 use gas_day::*;
 use std::fmt::Debug;
 
-/// Everything that an hour, its preview or a closing of two users is given and lent.
+/// Everything that an hour, its preview, its judge or a closing of two users is given and lent.
 #[derive(Clone, PartialEq, Debug)]
 struct Call {
     day: Day,
@@ -33,6 +33,11 @@ fn fit() -> Call {
     }
 }
 
+/// The same with the quantities that a judge accepts, and no others: of 3 kWh above the threshold one user has all.
+fn fit_judged() -> Call {
+    Call { quantity: vec![3, 0], ..fit() }
+}
+
 /// The same after the last hour, to be closed.
 fn fit_closing() -> Call {
     let mut call = fit();
@@ -55,6 +60,11 @@ impl Call {
         preview_hour(&self.day, &self.table, self.terms, amounts, outputs, &mut self.after, &mut self.scratch)
     }
 
+    fn judge(&mut self) -> Result<(), Cause> {
+        let [entry, exit, title, pooling] = &self.amounts;
+        judge_hour(&self.day, &self.table, self.terms, Amounts { entry, exit, title, pooling }, &self.quantity)
+    }
+
     fn close(&mut self) -> Result<Sums, Cause> {
         let HourTerms { zone, excess_price, shortfall_price, .. } = self.terms;
         let outputs = Outputs { quantity: &mut self.quantity, money: &mut self.money };
@@ -65,8 +75,8 @@ impl Call {
 /// A cause, and what brings it about.
 type Spoilt = (Cause, fn(&mut Call));
 
-/// Of hours, of previews and of closings.
-const SHARED: [Spoilt; 26] = [
+/// Of hours, of previews, of judges and of closings.
+const SHARED: [Spoilt; 24] = [
     (Cause::Record, |call| call.day.users = 0),
     (Cause::Record, |call| call.day.users = i64::MAX),
     (Cause::Record, |call| call.day.length = 22),
@@ -83,8 +93,6 @@ const SHARED: [Spoilt; 26] = [
     (Cause::Length, |call| call.table.push(0)),
     (Cause::Length, |call| call.table.clear()),
     (Cause::Length, |call| call.quantity.push(77)),
-    (Cause::Length, |call| call.money.truncate(1)),
-    (Cause::Length, |call| call.money.clear()),
     (Cause::Zone, |call| call.terms.zone = 2),
     (Cause::Zone, |call| call.terms.zone = i64::MIN),
     (Cause::Table, |call| call.table[0] = limits::POSITION_MOST + 1),
@@ -95,13 +103,18 @@ const SHARED: [Spoilt; 26] = [
     (Cause::Closed, |call| call.day.h = ZoneDay { hours: 24, closed: 1 }),
 ];
 
-/// Of hours and of previews.
-const HOURS: [Spoilt; 18] = [
+/// Of all of these but judges, which are lent no money list.
+const MONEY: [Spoilt; 2] = [(Cause::Length, |call| call.money.truncate(1)), (Cause::Length, |call| call.money.clear())];
+
+/// Of hours and of previews, which are lent a scratch.
+const SCRATCH: [Spoilt; 2] = [(Cause::Length, |call| call.scratch.push(77)), (Cause::Length, |call| call.scratch.truncate(1))];
+
+/// Of hours, of previews and of judges.
+const HOURS: [Spoilt; 17] = [
     (Cause::Length, |call| call.amounts[0].push(0)),
     (Cause::Length, |call| call.amounts[1].clear()),
     (Cause::Length, |call| call.amounts[2].truncate(1)),
     (Cause::Length, |call| call.amounts[3].push(0)),
-    (Cause::Length, |call| call.scratch.push(77)),
     (Cause::Hour, |call| call.terms.hour = 1),
     (Cause::Hour, |call| call.terms.hour = i64::MAX),
     (Cause::Hour, |call| (call.day.h.hours, call.terms.hour) = (24, 25)),
@@ -126,6 +139,34 @@ const PREVIEWS: [Spoilt; 5] = [
     (Cause::Record, |call| (call.day.length, call.after) = (22, vec![77; 3])),
 ];
 
+/// Of judges alone: the quantities' length is looked at before the zone, and after the record; then every user's sign, every causer's share, and last the sum.
+const JUDGES: [Spoilt; 24] = [
+    (Cause::Length, |call| call.quantity.truncate(1)),
+    (Cause::Length, |call| call.quantity.clear()),
+    (Cause::Length, |call| (call.terms.zone, call.quantity) = (2, vec![3; 128])),
+    (Cause::Record, |call| (call.day.length, call.quantity) = (22, vec![3; 3])),
+    (Cause::JudgedSign, |call| call.quantity[1] = 1),
+    (Cause::JudgedSign, |call| call.quantity[1] = -1),
+    (Cause::JudgedSign, |call| call.quantity[0] = -3),
+    (Cause::JudgedSign, |call| call.quantity = vec![4, -1]),
+    (Cause::JudgedSign, |call| call.quantity = vec![i64::MIN, 0]),
+    (Cause::JudgedSign, |call| call.quantity = vec![i64::MAX, i64::MIN]),
+    (Cause::JudgedSign, |call| call.terms.upper = 3), // the market is at its threshold: nobody caused
+    (Cause::JudgedSign, |call| (call.terms.upper, call.amounts[1][1]) = (100, -10)), // a shortfall, which the other caused
+    (Cause::JudgedSign, |call| (call.table[0], call.table[1], call.terms.lower, call.quantity) = (-5, 3, -1, vec![i64::MAX, 0])),
+    (Cause::JudgedShare, |call| call.quantity[0] = 2),
+    (Cause::JudgedShare, |call| call.quantity[0] = 4),
+    (Cause::JudgedShare, |call| call.quantity[0] = 0),
+    (Cause::JudgedShare, |call| call.quantity[0] = i64::MAX),
+    (Cause::JudgedShare, |call| call.terms.upper = 1),
+    (Cause::JudgedShare, |call| (call.table[1], call.quantity) = (5, vec![9, 0])), // of 10 kWh the shares are 9 and 1
+    (Cause::JudgedShare, |call| (call.table[0], call.table[1], call.terms.lower, call.quantity) = (-5, 3, -1, vec![i64::MIN, 0])),
+    (Cause::JudgedSum, |call| (call.table[1], call.terms.upper, call.quantity) = (5, 9, vec![0, 0])), // of 1 kWh they are 9/10 and 1/10
+    (Cause::JudgedSum, |call| (call.table[1], call.terms.upper, call.quantity) = (5, 9, vec![1, 1])),
+    (Cause::JudgedSum, |call| (call.table[0], call.table[1], call.terms.lower, call.quantity) = (-5, 3, -1, vec![-1, -1])), // both stand at -1
+    (Cause::JudgedSum, |call| (call.table[0], call.table[1], call.terms.lower, call.quantity) = (-5, 3, -1, vec![0, 0])),
+];
+
 /// A call that is accepted is refused by its cause in each of these ways, and leaves everything as it was.
 fn refused<T: PartialEq + Debug>(fit: fn() -> Call, make: fn(&mut Call) -> Result<T, Cause>, ways: &[&[Spoilt]]) {
     assert!(make(&mut fit()).is_ok());
@@ -140,18 +181,29 @@ fn refused<T: PartialEq + Debug>(fit: fn() -> Call, make: fn(&mut Call) -> Resul
 
 #[test]
 fn of_an_hour() {
-    refused(fit, Call::settle, &[&SHARED, &HOURS]);
+    refused(fit, Call::settle, &[&SHARED, &MONEY, &SCRATCH, &HOURS]);
 }
 
 #[test]
 fn of_a_preview() {
-    refused(fit, Call::preview, &[&SHARED, &HOURS, &PREVIEWS]);
+    refused(fit, Call::preview, &[&SHARED, &MONEY, &SCRATCH, &HOURS, &PREVIEWS]);
+}
+
+#[test]
+fn of_a_judge() {
+    refused(fit_judged, Call::judge, &[&SHARED, &HOURS, &JUDGES]);
+    for (cause, spoil) in SHARED.iter().chain(&HOURS) {
+        let mut call = fit(); // whose quantities would be refused too
+        spoil(&mut call);
+        assert_eq!(call.judge(), Err(*cause));
+    }
+    assert_eq!(fit().judge(), Err(Cause::JudgedSign));
 }
 
 #[test]
 fn of_a_closing() {
     let early: [Spoilt; 2] = [(Cause::Hour, |call| call.day.h.hours = 23), (Cause::Hour, |call| call.day.length = 25)];
-    refused(fit_closing, Call::close, &[&SHARED, &early]);
+    refused(fit_closing, Call::close, &[&SHARED, &MONEY, &early]);
 }
 
 #[test]
@@ -276,13 +328,13 @@ fn of_a_writing() {
 
 #[test]
 fn by_number_and_words() {
-    assert_eq!(Cause::ALL.len(), 21);
+    assert_eq!(Cause::ALL.len(), 24);
     for (number, &cause) in (1..).zip(Cause::ALL) {
         assert_eq!((cause.number(), cause as u64), (number, number));
         assert_eq!(Cause::of(number), Some(cause));
         assert_eq!(cause.to_string(), format!("cause {number}: {}", cause.words()));
     }
-    for number in [0, 22, 257, 1 << 32 | 1, u64::MAX] {
+    for number in [0, 25, 257, 1 << 32 | 1, u64::MAX] {
         assert_eq!(Cause::of(number), None);
     }
     let error: Box<dyn std::error::Error> = Cause::Pooling.into();

@@ -65,6 +65,34 @@ fn case_a_previewed() {
     assert_eq!(day, Day { users: 3, length: 24, h: ZoneDay::default(), l: ZoneDay::default() });
 }
 
+/// Of 5000000 kWh the exact shares are 3333333.33 and 1666666.67, and the third did not cause.
+#[test]
+fn case_a_judged() {
+    let mut table = [77; TABLE_PLACES];
+    let day = open(3, 24, &mut table).unwrap();
+    let terms = terms(0, 1, default_thresholds(1, 0).unwrap());
+    let lists = [
+        ([3_333_333, 1_666_667, 0], Ok(())), // our own
+        ([3_333_334, 1_666_666, 0], Ok(())), // rounded in the other way
+        ([3_333_333, 1_666_667, -1], Err(Cause::JudgedSign)),
+        ([3_333_333, 1_666_666, 1], Err(Cause::JudgedSign)),
+        ([5_000_001, -1, 0], Err(Cause::JudgedSign)), // of the second, before the first is off
+        ([3_333_333, i64::MIN, 0], Err(Cause::JudgedSign)),
+        ([i64::MAX; 3], Err(Cause::JudgedSign)),
+        ([3_333_332, 1_666_668, 0], Err(Cause::JudgedShare)),
+        ([3_333_333, 1_666_665, 0], Err(Cause::JudgedShare)), // of the second, before the sum is wrong
+        ([0; 3], Err(Cause::JudgedShare)),
+        ([i64::MAX, 1_666_667, 0], Err(Cause::JudgedShare)),
+        ([3_333_333, 1_666_666, 0], Err(Cause::JudgedSum)),
+        ([3_333_334, 1_666_667, 0], Err(Cause::JudgedSum)),
+    ];
+    for (quantity, judged) in lists {
+        assert_eq!(judge_hour(&day, &table, terms, AMOUNTS_A, &quantity), judged, "{quantity:?}");
+    }
+    assert_eq!(table, [0; TABLE_PLACES]);
+    assert_eq!(day, Day { users: 3, length: 24, h: ZoneDay::default(), l: ZoneDay::default() });
+}
+
 #[test]
 fn case_a_by_its_file_in_mwh() {
     let in_mwh = b"h,z,g,EEA,XEA,NCTTN,IPT\r\n1,H,0,30000.000,-10000.000,0.000,0.000\r\n1,H,1,15000.000,-5000.000,0.000,0.000\r\n1,H,2,2000.000,-5000.000,0.000,0.000\r\n";
@@ -126,13 +154,14 @@ fn only<const N: usize>(places: [(usize, i64); N]) -> [i64; USERS] {
 }
 
 impl Worked {
-    /// The hour, settled after its preview, which gives the same and leaves record and table.
+    /// The hour, settled after its preview, which gives the same, and after a judge, which accepts the preview's quantities; both leave record and table.
     fn hour(&mut self, terms: HourTerms, [entry, exit, title, pooling]: [[i64; USERS]; 4]) -> Result<Outcome, Cause> {
         let amounts = Amounts { entry: &entry, exit: &exit, title: &title, pooling: &pooling };
         let (mut quantity, mut money, mut after, mut scratch) = (self.quantity, self.money, [77; USERS], [77; USERS]);
         let before = (self.day, self.table);
         let outputs = Outputs { quantity: &mut quantity, money: &mut money };
         let seen = preview_hour(&self.day, &self.table, terms, amounts, outputs, &mut after, &mut scratch);
+        assert_eq!(judge_hour(&self.day, &self.table, terms, amounts, &quantity), seen.map(|_| ()));
         assert_eq!((self.day, self.table), before);
         let outputs = Outputs { quantity: &mut self.quantity, money: &mut self.money };
         assert_eq!(settle_hour(&mut self.day, &mut self.table, terms, amounts, outputs, &mut [77; USERS]), seen);
@@ -217,6 +246,12 @@ fn the_last_hour_of_the_most_users() {
     let amounts = Amounts { entry: &entries, exit: &exits, title: &[0; 128], pooling: &[0; 128] };
     let outputs = Outputs { quantity: &mut quantity, money: &mut money };
     let terms = terms(file.zone, file.hour, Thresholds { upper: 0, lower: 0 });
+    let mut judged = [50_000_000; 128];
+    assert_eq!(judge_hour(&day, &table, terms, amounts, &judged), Ok(()));
+    for (last, cause) in [(49_999_999, Cause::JudgedShare), (i64::MAX, Cause::JudgedShare), (-1, Cause::JudgedSign)] {
+        judged[127] = last;
+        assert_eq!(judge_hour(&day, &table, terms, amounts, &judged), Err(cause));
+    }
     let outcome = settle_hour(&mut day, &mut table, terms, amounts, outputs, &mut [77; 128]).unwrap();
     let causers = Causers { first: u64::MAX, second: u64::MAX, number: 128 };
     assert_eq!(outcome, Outcome::Settled { side: Side::Excess, total: 6_400_000_000, causers });

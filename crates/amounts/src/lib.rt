@@ -32,7 +32,7 @@ fn befores_fit(part: &[i64], amounts: &Amounts) -> bool
     // A pass that stops nowhere: `(0..n).all(..)` proves too, but by one function and one induction more, and it stops early: an hour within its thresholds then takes
     // a tenth more instructions.
     for user in 0..amounts.entries.len() {
-        let before = positions::before_of_user(part[user], amounts, user);
+        let before = positions::before_at(part, amounts, user);
         fit &= Position::fits(before);
     }
     fit

@@ -7,6 +7,7 @@ use Rattle.cases.specs.Cases.{opened, terms_of, moved, said, quantity, money, le
 use Rattle.cases.specs.Cases.{case_a, figures_a, case_b, figures_b, figures_c, figures_d, figures_e, figures_f, figures_g, case_i, figures_i, figures_j}
 use Rattle.cases.specs.Cases.{table_h, case_h, figures_h, figures_k, figures, AllFigures}
 use Rattle.cases.specs.Examples.{example_hour, example_closing, hours_from, zone_calls, zone_causes, whole_day, start, causes, WholeDays, TwelveUsers, Defaults}
+use Rattle.cases.specs.Examples.{judged, whole_shares, short_shares, within_thresholds, JudgedLists}
 
 pub all_figures : AllFigures
 unfolding
@@ -31,3 +32,21 @@ twelve_users = refl
 pub defaults : Defaults
 unfolding rules
 defaults = (refl, refl)
+
+pub judged_lists : JudgedLists
+unfolding
+    rules as_row file_of opened terms_of moved nines file_a said_by said_a case_a judged whole_shares short_shares
+    within_thresholds
+judged_lists = record {
+  case_a_accepted = refl;
+  case_a_signs = refl;
+  case_a_shares = refl;
+  case_a_sums = refl;
+  one_off = refl;
+  shortfall_accepted = refl;
+  in_turn = refl;
+  within_accepted = refl;
+  any_number = refl;
+  least = refl;
+  long = refl;
+}

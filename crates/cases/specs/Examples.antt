@@ -1,11 +1,14 @@
--- A whole day of each length with refused calls in it, so that the theorems on histories speak of something; rule 4 among twelve users; and the lower defaults. Assumes nothing.
-use Rattle.std.specs.Prelude.{◌≡◌, true, Ok, List, [], ◌∷◌, ◌++◌, map, ℕ, zero, suc, ◌+◌, ◌-◌, ◌*◌, pos, neg_ℤ, replicate}
+-- A whole day of each length with refused calls in it, so that the theorems on histories speak of something; rule 4 among twelve users; the lower defaults; and lists of quantities, judged.
+-- Assumes nothing.
+use Rattle.std.specs.Prelude.{◌≡◌, true, Ok, List, [], ◌∷◌, ◌++◌, map, ℕ, ℤ, zero, suc, ◌+◌, ◌-◌, ◌*◌, pos, neg_ℤ, replicate}
 use Rattle.largest_remainder.specs.Rule.{settled}
 use Rattle.rules.specs.Days.{new_day}
 use Rattle.rules.specs.Thresholds.{lower_default}
 use Rattle.rules.specs.Hours.{Hour, Closing}
 use Rattle.rules.specs.Answers.{open_answer, hour_answer, hour_number, closing_answer, closing_number}
+use Rattle.rules.specs.Judging.{judge_answer, judge_number}
 use Rattle.rules.specs.History.{State, Call, hour, closing, opened, step, run, first_sum, second_sum}
+use Rattle.cases.specs.Cases.{neg, opened as case_opened, terms_of, moved, case_a}
 
 -- two users of either zone, with title transfers of 5 and -2 kWh in each hour and an upper threshold of 4
 unfoldable pub example_hour : ℕ → ℕ → Hour
@@ -76,3 +79,51 @@ abbrev pub Defaults : Type 0
 Defaults =
     (map (λ month. lower_default (pos month) (pos 0)) (1 ∷ 4 ∷ 7 ∷ 12 ∷ []) ≡ map (λ n. neg_ℤ (pos n)) (22_000_000 ∷ 25_000_000 ∷ 30_000_000 ∷ 22_000_000 ∷ []))
     × (map (λ month. lower_default (pos month) (pos 1)) (1 ∷ 4 ∷ 7 ∷ 12 ∷ []) ≡ map (λ n. neg_ℤ (pos n)) (13_000_000 ∷ 13_000_000 ∷ 16_000_000 ∷ 13_000_000 ∷ []))
+
+-- ---- the judge; document 02: "Operators round in their own ways and may still be right."
+
+-- the cause of quantities, 0 for none, in the first hour of a day of n users
+unfoldable pub judged : ℕ → Hour → List ℤ → ℕ
+judged n g qs = judge_number (judge_answer (case_opened n).day (case_opened n).table g qs)
+
+-- positions 4 and 2 with an upper threshold of 3: an excess of 3, of which the exact shares are 2 and 1
+unfoldable pub whole_shares : Hour
+whole_shares = moved (pos 4 ∷ pos 2 ∷ []) (terms_of 1 (pos 3) (pos 0) (pos 0))
+
+-- as case C: a shortfall of 2, of which each share is 2/3
+unfoldable pub short_shares : Hour
+short_shares = moved (replicate 3 (neg 1)) (terms_of 1 (pos 0) (neg 1) (pos 0))
+
+-- as case D: an hour within its thresholds
+unfoldable pub within_thresholds : Hour
+within_thresholds = moved (pos 22_000_000 ∷ []) (terms_of 1 (pos 22_000_000) (pos 0) (pos 0))
+
+pub record JudgedLists : Type 0 where
+  -- case A's exact shares are 3,333,333 1/3 and 1,666,666 2/3: our rounding, and another one
+  pub case_a_accepted :
+      map (judged 3 case_a) ((pos 3_333_333 ∷ pos 1_666_667 ∷ pos 0 ∷ []) ∷ (pos 3_333_334 ∷ pos 1_666_666 ∷ pos 0 ∷ []) ∷ []) ≡ 0 ∷ 0 ∷ []
+  -- "22 if a user who did not cause has a quantity or a causer's has the wrong sign", though the sum is right
+  pub case_a_signs :
+      map (judged 3 case_a) ((pos 3_333_334 ∷ pos 1_666_667 ∷ neg 1 ∷ []) ∷ (pos 6_666_667 ∷ neg 1_666_667 ∷ pos 0 ∷ []) ∷ []) ≡ 22 ∷ 22 ∷ []
+  -- "then 23 if one is 1 kWh or more off": 1 1/3 less and more, the sum being right
+  pub case_a_shares : judged 3 case_a (pos 3_333_332 ∷ pos 1_666_668 ∷ pos 0 ∷ []) ≡ 23
+  -- "then 24 if the sum is wrong": both rounded down, and both rounded up
+  pub case_a_sums :
+      map (judged 3 case_a) ((pos 3_333_333 ∷ pos 1_666_666 ∷ pos 0 ∷ []) ∷ (pos 3_333_334 ∷ pos 1_666_667 ∷ pos 0 ∷ []) ∷ []) ≡ 24 ∷ 24 ∷ []
+  -- exactly 1 off is 23
+  pub one_off : map (judged 2 whole_shares) ((pos 2 ∷ pos 1 ∷ []) ∷ (pos 3 ∷ pos 0 ∷ []) ∷ (pos 1 ∷ pos 2 ∷ []) ∷ []) ≡ 0 ∷ 23 ∷ 23 ∷ []
+  -- a causer with 0 has no wrong sign: in a shortfall whoever of three gets nothing
+  pub shortfall_accepted :
+      map (judged 3 short_shares) ((neg 1 ∷ neg 1 ∷ pos 0 ∷ []) ∷ (neg 1 ∷ pos 0 ∷ neg 1 ∷ []) ∷ (pos 0 ∷ neg 1 ∷ neg 1 ∷ []) ∷ []) ≡ 0 ∷ 0 ∷ 0 ∷ []
+  -- 22 is looked at of all users before 23 of any, and 23 of all before 24
+  pub in_turn :
+      map (judged 3 short_shares) ((neg 9 ∷ neg 1 ∷ pos 1 ∷ []) ∷ (neg 1 ∷ neg 1 ∷ neg 2 ∷ []) ∷ (neg 1 ∷ neg 1 ∷ neg 1 ∷ []) ∷ []) ≡ 22 ∷ 23 ∷ 24 ∷ []
+  -- within the thresholds nobody caused
+  pub within_accepted : map (judged 1 within_thresholds) ((pos 0 ∷ []) ∷ (pos 1 ∷ []) ∷ (neg 1 ∷ []) ∷ []) ≡ 0 ∷ 22 ∷ 22 ∷ []
+  -- the ends of 64 bits
+  pub any_number :
+      map (judged 2 whole_shares) ((pos 9_223_372_036_854_775_807 ∷ pos 1 ∷ []) ∷ (neg 9_223_372_036_854_775_808 ∷ pos 1 ∷ []) ∷ []) ≡ 23 ∷ 22 ∷ []
+  -- the least of 64 bits with the right sign
+  pub least : judged 3 short_shares (neg 9_223_372_036_854_775_808 ∷ neg 1 ∷ pos 0 ∷ []) ≡ 23
+  -- "3 also for that list"
+  pub long : map (judged 2 whole_shares) ((pos 2 ∷ []) ∷ (pos 2 ∷ pos 1 ∷ pos 0 ∷ []) ∷ []) ≡ 3 ∷ 3 ∷ []

@@ -1,24 +1,32 @@
--- The lengths of cause 3, as the private functions promise them to the calls. Who believes the rules need not believe these: the public contracts cite
+-- The lengths of cause 3, and what they leave for causes 4 to 11, as the private functions promise them to the calls. Who believes the rules need not believe these: the public contracts cite
 -- none of them. Assumes nothing.
-use Rattle.std.specs.Prelude.{Bool, ◌&&◌, List, ℕ, eqb, ℤ, length}
+use Rattle.std.specs.Prelude.{◌≡◌, Bool, true, ◌&&◌, List, ℕ, eqb, ℤ, length}
 use Rattle.rules.specs.declared.Amounts.{Amounts}
 use Rattle.rules.specs.declared.Day.{Day}
 use Rattle.rules.specs.declared.Outputs.{Outputs}
-use Rattle.rules.specs.Causes.{table_long, list_long, scratch_long}
+use Rattle.rules.specs.Days.{users}
+use Rattle.rules.specs.Causes.{day_fit, table_long, list_long}
+use Rattle.places.specs.Live.{Tabled}
+use Rattle.positions.specs.Before.{OneLength}
+
+abbrev pub four_long : ℕ → Amounts → Bool
+four_long n a = eqb (length a.entries.now) n && (eqb (length a.exits.now) n && (eqb (length a.titles.now) n && eqb (length a.poolings.now) n))
 
 abbrev pub filled_long : ℕ → Outputs → List ℕ → Bool
 filled_long n o s = eqb (length o.quantity.now) n && (eqb (length o.money.now) n && eqb (length s) n)
 
-abbrev pub lent_long : ℕ → Amounts → Outputs → List ℕ → Bool
-lent_long n a o s =
-    eqb (length a.entries.now) n
-    && (eqb (length a.exits.now) n && (eqb (length a.titles.now) n && (eqb (length a.poolings.now) n && filled_long n o s)))
-
 abbrev pub hour_lists_long : Day → List ℤ → Amounts → Outputs → List ℕ → Bool
-hour_lists_long d t a o s =
-    table_long t
-    && (list_long d a.entries.now && (list_long d a.exits.now && (list_long d a.titles.now && (list_long d a.poolings.now
-    && (list_long d o.quantity.now && (list_long d o.money.now && scratch_long d s))))))
+hour_lists_long d t a o s = table_long t && (four_long (users d) a && filled_long (users d) o s)
+
+abbrev pub judge_lists_long : Day → List ℤ → Amounts → List ℤ → Bool
+judge_lists_long d t a qs = table_long t && (four_long (users d) a && list_long d qs)
 
 abbrev pub closing_lists_long : Day → List ℤ → Outputs → Bool
 closing_lists_long d t o = table_long t && (list_long d o.quantity.now && list_long d o.money.now)
+
+-- what causes 4 to 11 count on: a record that fits, a table of all its places, and for each kind of amount a list of the user count
+pub record Listed (d : Day) (t : List ℤ) (a : Amounts) : Type 0 where
+  pub day : day_fit d ≡ true
+  pub tabled : Tabled d t
+  pub entries : length a.entries.now ≡ users d
+  pub lists : OneLength a

@@ -1,12 +1,12 @@
-// The causes for turning a call away: for each call the first that applies, in the order of the papers. Every input is accepted, so each test stands
+// The causes for turning a call away: for each call the first that applies (of the judge, of those up to 11), in the order of the papers. Every input is accepted, so each test stands
 // behind those that it counts on: the record before the hours, the lengths before the places, the ranges before the sums.
 
 #![tactic(auto)]
 
 ghost use Rattle.std.specs.Prelude.{◌≡◌};
-ghost use Rattle.rules.specs.Hours.{hour_given, closing_given};
-ghost use Rattle.rules.specs.Causes.{zone_open, open_cause, thresholds_cause, hour_cause, preview_cause, closing_cause};
-ghost use Rattle.causes.specs.Steps.{filled_long, lent_long, hour_lists_long, closing_lists_long};
+ghost use Rattle.rules.specs.Hours.{hour_given, inputs_given, closing_given};
+ghost use Rattle.rules.specs.Causes.{zone_open, open_cause, thresholds_cause, inputs_cause, hour_cause, preview_cause, judge_inputs_cause, closing_cause};
+ghost use Rattle.causes.specs.Steps.{four_long, filled_long, hour_lists_long, judge_lists_long, closing_lists_long, Listed};
 
 use rules::{Amounts, Cause, ClosingTerms, Day, HourTerms, Outputs, require};
 
@@ -30,7 +30,7 @@ pub fn thresholds_cause(month: i64, zone: i64) -> Result<(), Cause>
     require(ranges::month_fit(month), Cause::Terms)
 }
 
-// ---- what an hour and a closing have in common
+// ---- what an hour, its preview, the judge and a closing have in common
 
 // Cause 5.
 #[tactic(auto, unfolding(rules::specs::Causes::zone_open))]
@@ -42,26 +42,25 @@ fn zone_open(zone: i64, day: Day) -> bool
 
 // ---- an hour
 
-// Cause 3 in three functions, since the search for a proof of one chain of eight tests gives up: first the lists that an hour fills, and its scratch.
+// Cause 3 in parts, since the search for a proof of one chain of eight tests gives up: the lists of the four amounts.
+fn four_long(users: usize, amounts: &Amounts) -> bool
+    ensures { result ≡ four_long users amounts.now }
+{
+    amounts.entries.len() == users
+        && amounts.exits.len() == users
+        && amounts.titles.len() == users
+        && amounts.poolings.len() == users
+}
+
+// The lists that an hour fills, and its scratch.
 fn filled_long(users: usize, outputs: &Outputs, scratch: &[u64]) -> bool
     ensures { result ≡ filled_long users outputs.now scratch.now }
 {
     outputs.quantity.len() == users && outputs.money.len() == users && scratch.len() == users
 }
 
-// All that is lent to an hour besides the table.
-fn lent_long(users: usize, amounts: &Amounts, outputs: &Outputs, scratch: &[u64]) -> bool
-    ensures { result ≡ lent_long users amounts.now outputs.now scratch.now }
-{
-    amounts.entries.len() == users
-        && amounts.exits.len() == users
-        && amounts.titles.len() == users
-        && amounts.poolings.len() == users
-        && filled_long(users, outputs, scratch)
-}
-
 // All the lengths of an hour.
-#[tactic(auto, unfolding(rules::specs::Causes::table_long, rules::specs::Causes::list_long, rules::specs::Causes::scratch_long, rules::specs::Days::users))]
+#[tactic(auto, unfolding(rules::specs::Causes::table_long, rules::specs::Days::users))]
 fn hour_lists_long(
     day: Day,
     table: &[i64],
@@ -73,12 +72,26 @@ fn hour_lists_long(
         outputs.now scratch.now }
 {
     let users = integers::natural(day.users);
-    table.len() == 256 && lent_long(users, amounts, outputs, scratch)
+    table.len() == 256 && four_long(users, amounts) && filled_long(users, outputs, scratch)
 }
 
-// Inlined, since a preview calls it too: else a refusal of an hour by 2 to 6 would take 5 ns more.
+// Causes 4 to 11, of what an hour is told. (Inlined, and `hour_cause` too, since more than one call makes them: else a refusal of an hour by 2 to 6 would take 5 ns more.)
 #[inline(always)]
-#[tactic(auto, using(crate::proofs::Lengths::hour_tabled), unfolding(rules::specs::Causes::hour_cause, rules::specs::Causes::hour_long))]
+#[tactic(auto, unfolding(rules::specs::Causes::inputs_cause))]
+fn inputs_cause(day: Day, table: &[i64], terms: HourTerms, amounts: &Amounts) -> Result<(), Cause>
+    requires { Listed day table.now amounts.now }
+    ensures { result ≡ inputs_cause day table.now (inputs_given terms amounts.now) }
+{
+    require(ranges::zone_fit(terms.zone), Cause::Zone)?;
+    require(zone_open(terms.zone, day), Cause::Closed)?;
+    require(day_record::hour_next(day, terms), Cause::Hour)?;
+    require(places::table_fit(day, table), Cause::Table)?;
+    require(ranges::terms_fit(terms), Cause::Terms)?;
+    amounts::zone_amounts_cause(terms.zone, table, amounts)
+}
+
+#[inline(always)]
+#[tactic(auto, unfolding(rules::specs::Causes::hour_cause, rules::specs::Causes::hour_long, rules::specs::Causes::amounts_long, rules::specs::Causes::list_long, rules::specs::Causes::scratch_long))]
 pub fn hour_cause(
     day: Day,
     table: &[i64],
@@ -94,12 +107,7 @@ pub fn hour_cause(
     require(day_record::day_fit(day), Cause::Record)?;
     let long = hour_lists_long(day, table, amounts, outputs, scratch);
     require(long, Cause::Lengths)?;
-    require(ranges::zone_fit(terms.zone), Cause::Zone)?;
-    require(zone_open(terms.zone, day), Cause::Closed)?;
-    require(day_record::hour_next(day, terms), Cause::Hour)?;
-    require(places::table_fit(day, table), Cause::Table)?;
-    require(ranges::terms_fit(terms), Cause::Terms)?;
-    amounts::zone_amounts_cause(terms.zone, table, amounts)
+    inputs_cause(day, table, terms, amounts)
 }
 
 // ---- a preview of an hour
@@ -124,6 +132,35 @@ pub fn preview_cause(
     let users = integers::natural(day.users);
     require(after.len() == users, Cause::Lengths)?;
     hour_cause(day, table, terms, amounts, outputs, scratch)
+}
+
+// ---- the judge of an operator's quantities: causes 2 to 11
+
+// Only the amounts and the quantities are lent, for reading.
+#[tactic(auto, unfolding(rules::specs::Causes::table_long, rules::specs::Causes::list_long, rules::specs::Days::users))]
+fn judge_lists_long(day: Day, table: &[i64], amounts: &Amounts, quantity: &[i64]) -> bool
+    ensures { result ≡ judge_lists_long day table.now amounts.now quantity.now }
+{
+    let users = integers::natural(day.users);
+    table.len() == 256 && four_long(users, amounts) && quantity.len() == users
+}
+
+#[tactic(auto, unfolding(rules::specs::Causes::judge_inputs_cause, rules::specs::Causes::judge_long, rules::specs::Causes::amounts_long, rules::specs::Causes::list_long))]
+pub fn judge_inputs_cause(
+    day: Day,
+    table: &[i64],
+    terms: HourTerms,
+    amounts: &Amounts,
+    quantity: &[i64],
+) -> Result<(), Cause>
+    ensures { result ≡ judge_inputs_cause day table.now
+        (inputs_given terms amounts.now)
+        quantity.now }
+{
+    require(day_record::day_fit(day), Cause::Record)?;
+    let lists = judge_lists_long(day, table, amounts, quantity);
+    require(lists, Cause::Lengths)?;
+    inputs_cause(day, table, terms, amounts)
 }
 
 // ---- a closing

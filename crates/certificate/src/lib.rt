@@ -5,7 +5,7 @@
 // does not get from the proof to the contract, or it does without (`CauseGiven`).
 //
 // That the calls do what the definitions say is each call's own contract, an equation for the answer and for every lent area, refused or accepted: `open`, `default_thresholds`,
-// `settle_hour`, `preview_hour` and `close_zone` in the crate `gas_day`, `read_hour_file` in `allocation_file`, `write_hour_file` in `allocation_writer`. A theorem below holds of the
+// `settle_hour`, `preview_hour`, `judge_hour` and `close_zone` in the crate `gas_day`, `read_hour_file` in `allocation_file`, `write_hour_file` in `allocation_writer`. A theorem below holds of the
 // calls because it holds of those definitions.
 //
 // Words in quotation marks are the papers': of the demands, or of document 01 or 02 where a line says so.
@@ -14,17 +14,17 @@
 
 ghost use Rattle.largest_remainder.specs.Guarantees.{AddsUp, Accurate, NoMoreThanSize};
 ghost use Rattle.apportionment.specs.Guarantees.{EndsWithTheLast};
-ghost use Rattle.rules.specs.Guarantees.{BeginsAtZero, LengthKept, AcceptedIfFit, Conservation, ClosedIsZero, ClosedIsMarked, Accuracy, OutcomeByThresholds, MarksAreCausers, AsSettlingACopy};
+ghost use Rattle.rules.specs.Guarantees.{BeginsAtZero, LengthKept, AcceptedIfFit, Conservation, ClosedIsZero, ClosedIsMarked, Accuracy, OutcomeByThresholds, MarksAreCausers, AsSettlingACopy, AcceptedIfRight, OwnAccepted, AcceptedKeeps};
 ghost use Rattle.file_guarantees.specs.Guarantees.{ReadIfObeyed, FirstFaultDecides, AcceptedObeys, CauseGiven, SmallNumbers, TwoForms, PointsInAmounts};
 ghost use Rattle.file_guarantees.specs.Examples.{ExamplesComputed, CaseA};
 ghost use Rattle.writer_guarantees.specs.Guarantees.{WrittenIfFit, CauseOfThree, EnoughBytes, RoundTrip, WrittenIsRead, OneText};
 ghost use Rattle.writer_guarantees.specs.Examples.{CaseAWritten, TextsComputed, CausesComputed};
 ghost use Rattle.record_c.specs.Guarantees.{RecordKept};
-ghost use Rattle.flat.specs.Guarantees.{OddMarkRefused, PreviewKeepsRecord};
+ghost use Rattle.flat.specs.Guarantees.{OddMarkRefused, PreviewKeepsRecord, JudgeKeepsRecord};
 ghost use Rattle.text.specs.Examples.{DecimalsShown};
 ghost use Rattle.report.specs.Examples.{CaseAShown, RefusalShown};
 ghost use Rattle.cases.specs.Cases.{AllFigures};
-ghost use Rattle.cases.specs.Examples.{WholeDays, TwelveUsers, Defaults};
+ghost use Rattle.cases.specs.Examples.{WholeDays, TwelveUsers, JudgedLists, Defaults};
 
 // ---- the initial state
 
@@ -159,6 +159,26 @@ pub fn a_preview_is_as_settling_a_copy()
     ensures { AsSettlingACopy }
 {}
 
+// ---- the judge of an operator's own quantities
+
+// Document 02: "accept exactly when the quantities add to the excess (or to minus the shortfall, or to zero if there is neither), only causers have any, with the right sign, and each is
+// less than 1 kWh from the exact share", of an hour without a cause from 2 to 11, "3 also for that list".
+#[tactic(auto, using(rules::proofs::Guarantees::accepted_if_right))]
+pub fn quantities_are_accepted_if_right()
+    ensures { AcceptedIfRight }
+{}
+
+// Document 02: "Our own quantities are accepted".
+#[tactic(auto, using(rules::proofs::Guarantees::own_accepted))]
+pub fn our_own_quantities_are_accepted()
+    ensures { OwnAccepted }
+{}
+
+// Document 02: "an accepted list keeps the market within its thresholds and lets no position cross zero": what is said above of an hour of ours (`Accuracy`), but for rule 4's own rounding.
+pub fn an_accepted_list_keeps_the_promises()
+    ensures { AcceptedKeeps }
+{}
+
 // ---- the rules of an hour, in document 01's words
 
 // Rule 2: "Above the upper threshold there is an excess: the difference. Below the lower one there is a shortfall: the difference, taken positive. At a threshold there is neither."
@@ -217,6 +237,12 @@ pub fn a_preview_gives_the_record_back()
     ensures { PreviewKeepsRecord }
 {}
 
+// Document 02, of the judge: "the record comes back unchanged", likewise.
+#[tactic(auto, using(flat::proofs::Guarantees::judge_keeps_record))]
+pub fn the_judge_gives_the_record_back()
+    ensures { JudgeKeepsRecord }
+{}
+
 // ---- figures
 
 // Document 01: "Cases A to K, A by its reading and its settled numbers, stand as one list with a single proof over the definitions"
@@ -236,6 +262,12 @@ pub fn whole_days_can_be_run()
 #[tactic(auto, using(cases::proofs::Figures::twelve_users))]
 pub fn twelve_users_share_by_fractions()
     ensures { TwelveUsers }
+{}
+
+// Document 02: "Operators round in their own ways and may still be right." Lists of quantities of one to three users, ours and others, accepted, or refused by 3, 22, 23 or 24, each at its edge.
+#[tactic(auto, using(cases::proofs::Figures::judged_lists))]
+pub fn other_roundings_are_accepted()
+    ensures { JudgedLists }
 {}
 
 // Document 01: "January to December, upper threshold; the lower one is its negation."

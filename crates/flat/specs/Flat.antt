@@ -21,6 +21,7 @@ use Rattle.record_c.specs.declared.DayC.{DayC}
 use Rattle.flat.specs.declared.OpenC.{OpenC}
 use Rattle.flat.specs.declared.ThresholdsC.{ThresholdsC}
 use Rattle.flat.specs.declared.HourC.{HourC}
+use Rattle.flat.specs.declared.JudgedC.{JudgedC}
 use Rattle.flat.specs.declared.ClosingC.{ClosingC}
 use Rattle.flat.specs.declared.FileC.{FileC}
 use Rattle.flat.specs.declared.WrittenC.{WrittenC}
@@ -56,6 +57,15 @@ refused_hour d k = record { cause = k; day = d; side = 0; total = pos 0; first =
 abbrev pub flat_hour : DayC → Result HourDone Refusal → HourC
 flat_hour d (Err r) = refused_hour d (number r.cause)
 flat_hour d (Ok r) = flat_done (day_for_c r.day) r.outcome
+
+-- ---- the judge
+
+abbrev pub refused_judged : DayC → ℕ → JudgedC
+refused_judged d k = record { cause = k; day = d }
+
+abbrev pub flat_judged : DayC → Result Day Refusal → JudgedC
+flat_judged d (Err r) = refused_judged d (number r.cause)
+flat_judged d (Ok e) = record { cause = 0; day = day_for_c e }
 
 -- ---- a closing
 

@@ -4,7 +4,7 @@
 #![tactic(auto)]
 
 ghost use Rattle.std.specs.Prelude.{◌≡◌};
-ghost use Rattle.flat.specs.Flat.{flat_open, flat_thresholds, settled_hour, flat_done, flat_hour, flat_closing, flat_file, flat_written};
+ghost use Rattle.flat.specs.Flat.{flat_open, flat_thresholds, settled_hour, flat_done, flat_hour, flat_judged, flat_closing, flat_file, flat_written};
 
 use allocation_file::FileRead;
 use allocation_row::FileCause;
@@ -121,6 +121,33 @@ impl HourC {
             first: marks.first,
             second: marks.second,
             number: marks.number,
+        }
+    }
+}
+
+// ---- the judge
+
+#[repr(C)]
+#[derive(Clone, Copy, Default)]
+pub struct JudgedC {
+    pub cause: u64,
+    pub day: DayC,
+}
+
+impl JudgedC {
+    // As of an hour.
+    pub fn of(given: DayC, answer: Result<Day, Refusal>) -> JudgedC
+        ensures { result ≡ flat_judged given answer }
+    {
+        match answer {
+            Err(refusal) => {
+                let cause = refusal.cause.number();
+                JudgedC { cause, day: given }
+            }
+            Ok(judged) => {
+                let day = DayC::from(judged);
+                JudgedC { cause: 0, day }
+            }
         }
     }
 }

@@ -1,9 +1,8 @@
 -- An hour by its cause: what is answered where there is one, what the settlement may count on where there is none, and what is answered then. Assumes nothing.
-use mathlib.Core.Path.{◌≡◌, refl}
+use mathlib.Core.Path.{◌≡◌, refl, sym, ◌∙◌}
 use mathlib.Core.Bool.{true}
 use mathlib.Core.List.{List}
 use Prim.Native.Nat.{ℕ}
-use native.Mathlib.Omega.{arith}
 use lib.IntN.{ℤ}
 use Rattle.std.specs.Prelude.{Result, Ok, Err}
 use Rattle.rules.specs.declared.Amounts.{Amounts}
@@ -17,13 +16,12 @@ use Rattle.rules.specs.declared.HourDone.{HourDone}
 use Rattle.rules.specs.Refusals.{by_cause}
 use Rattle.rules.specs.Days.{users, part, day_after_hour}
 use Rattle.rules.specs.Hours.{Hour, hour_given, before}
-use Rattle.rules.specs.Causes.{day_fit, amounts_fit, hour_cause, before_fit}
+use Rattle.rules.specs.Causes.{day_fit, hour_cause}
 use Rattle.rules.specs.Answers.{hour_imbalance, hour_answer, hour_table, hour_quantity, hour_money, hour_scratch}
 use Rattle.rules.specs.Promises.{HourPromise}
-use Rattle.rules.proofs.Zones.{length_part}
-use Rattle.rules.proofs.Accepted.{hour_fit_lem, HourLengths, hour_lengths, hour_sound, part-fits}
-use Rattle.positions.specs.Before.{befores, all_fit}
-use Rattle.positions.proofs.Before.{before_is}
+use Rattle.rules.proofs.Accepted.{hour_fit_lem, HourLengths, hour_lengths, hour_sound}
+use Rattle.positions.specs.Before.{befores}
+use Rattle.positions.proofs.Before.{before_is, inputs_fit}
 use Rattle.settlement.specs.Steps.{TableAsks, TableLeaves}
 
 module _ (d : Day) (t : List ℤ) (k : HourTerms) (a : Amounts) (o : Outputs) (s : List ℕ) where
@@ -40,38 +38,26 @@ module _ (d : Day) (t : List ℤ) (k : HourTerms) (a : Amounts) (o : Outputs) (s
     lengths = hour_lengths d t g (hour_fit_lem d t g none).lengths
 
     pub positions_before : before d t g ≡ befores (part k.zone t) a
-    positions_before = before_is d t k a o s lengths.entries
+    positions_before = before_is d t k a _ _ _ lengths.amounts.entries
 
     pub day_fits_lem : day_fit d ≡ true
     day_fits_lem = (hour_fit_lem d t g none).day
 
     pub asks : TableAsks t a k o s
-    unfolding amounts_fit before_fit all_fit
     asks =
         let f = hour_fit_lem d t g none in
         let sound = hour_sound d t g none in
         let l = lengths in
+        let fit = inputs_fit d t k a _ _ _ sound l.amounts f.inputs in
         record {
           long = sound.long;
           lists = record {
-            amounts = record {
-              lent = record {
-                lists = record {
-                  exits = omega (arith, l.entries, l.exits);
-                  titles = omega (arith, l.entries, l.titles);
-                  poolings = omega (arith, l.entries, l.poolings);
-                };
-                few = omega (arith, l.entries, sound.few);
-                room = omega (arith, l.entries, sound.few, length_part t sound.long sound.zoned);
-                positions = part-fits k.zone d t f.table;
-              };
-              fit = f.amounts;
-            };
-            positions = rw positions_before at f.positions;
-            terms = f.terms;
-            quantities = omega (arith, l.entries, l.quantities);
-            moneys = omega (arith, l.entries, l.moneys);
-            scratches = omega (arith, l.entries, l.scratches);
+            amounts = fit.range;
+            positions = fit.positions;
+            terms = f.inputs.terms;
+            quantities = l.quantities ∙ sym l.amounts.entries;
+            moneys = l.moneys ∙ sym l.amounts.entries;
+            scratches = l.scratches ∙ sym l.amounts.entries;
           };
         }
 

@@ -45,7 +45,7 @@ module _ (d : Day) (t : List ℤ) (k : HourTerms) (a : Amounts) (o : Outputs) (s
     unfolding list_long
     copy_asked =
         let (long, hour) = no_cause in
-        (asks d t k a o s hour, omega (arith, eqb-true (length lent) (users d) long, (lengths d t k a o s hour).entries))
+        (asks d t k a o s hour, omega (arith, eqb-true (length lent) (users d) long, (lengths d t k a o s hour).amounts.entries))
 
     pub previewed : (a' : List ℤ) (o' : Outputs) (s' : List ℕ) (x : Outcome)
         → UsersLeave (part k.zone t) a' a k o o' s s' x

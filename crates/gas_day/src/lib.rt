@@ -1,11 +1,12 @@
-// The public calls of the Gas Day. Each accepts every input, gives the first cause of document 01 that applies, else the answer, and writes nothing before every
+// The public calls of the Gas Day. Each accepts every input, gives the first cause that applies, else the answer, and writes nothing before every
 // cause has been looked at. The contracts set the answer and every lent area equal to the definitions of the crate `rules`.
 
 #![tactic(auto)]
 
 ghost use Rattle.std.specs.Prelude.{◌≡◌};
-ghost use Rattle.rules.specs.Hours.{hour_given, closing_given, Same};
+ghost use Rattle.rules.specs.Hours.{hour_given, inputs_given, closing_given, Same};
 ghost use Rattle.rules.specs.Answers.{with_day, thresholds_answer};
+ghost use Rattle.rules.specs.Judging.{judge_answer};
 ghost use Rattle.rules.specs.Promises.{OpenPromise, HourPromise, PreviewPromise, ClosingPromise};
 
 use rules::{
@@ -13,7 +14,7 @@ use rules::{
     Thresholds,
 };
 
-// What a refusal of an hour, a preview or a closing returns: "number, same record".
+// What a refusal of an hour, a preview, the judge or a closing returns: "number, same record".
 fn refused(cause: Result<(), Cause>, day: Day) -> Result<(), Refusal>
     ensures { result ≡ with_day day cause }
 {
@@ -80,6 +81,22 @@ pub fn preview_hour(
     refused(cause, day)?;
     let outcome = settlement::settle_copy(table, amounts, terms, outputs, after, scratch);
     Ok(HourDone { day, outcome })
+}
+
+// Judges an operator's own quantities of an hour: causes 2 to 11, then 22 to 24. All is lent for reading, and the record comes back unchanged.
+#[tactic(auto, unfolding(rules::specs::Judging::judge_answer))]
+pub fn judge_hour(
+    day: Day,
+    table: &[i64],
+    terms: HourTerms,
+    amounts: &Amounts,
+    quantity: &[i64],
+) -> Result<Day, Refusal>
+    ensures { result ≡ judge_answer day table.now (inputs_given terms amounts.now) quantity.now }
+{
+    let cause = judging::judge_cause(day, table, terms, amounts, quantity);
+    refused(cause, day)?;
+    Ok(day)
 }
 
 // Closes a zone after its last hour: causes 2 to 8.

@@ -4,14 +4,16 @@
 #![tactic(auto)]
 
 ghost use Rattle.std.specs.Prelude.{◌≡◌};
-ghost use Rattle.rules.specs.Hours.{hour_listed, closing_listed};
+ghost use Rattle.rules.specs.Hours.{hour_listed, inputs_listed, closing_listed};
 ghost use Rattle.rules.specs.Answers.{thresholds_answer};
-ghost use Rattle.flat.specs.Flat.{flat_thresholds};
+ghost use Rattle.rules.specs.Judging.{judge_answer};
+ghost use Rattle.record_c.specs.Records.{day_of};
+ghost use Rattle.flat.specs.Flat.{flat_thresholds, flat_judged};
 ghost use Rattle.allocation_writer.specs.Writer.{content_listed};
 ghost use Rattle.gas_day_c.specs.Promises.{version, OpenForC, HourForC, PreviewForC, ClosingForC, FileForC, WriteForC};
 
 use allocation_row::Lists;
-use flat::{ClosingC, FileC, HourC, OpenC, ThresholdsC, WrittenC};
+use flat::{ClosingC, FileC, HourC, JudgedC, OpenC, ThresholdsC, WrittenC};
 use record_c::DayC;
 use rules::{Amounts, ClosingTerms, HourTerms, Outputs};
 
@@ -114,6 +116,33 @@ pub extern "C" fn gas_day_preview_hour(
         scratch,
     );
     HourC::of(day, answer)
+}
+
+// ---- the judge of an operator's quantities
+
+#[unsafe(no_mangle)]
+pub extern "C" fn gas_day_judge_hour(
+    day: DayC,
+    table: &[i64],
+    terms: HourTerms,
+    entry: &[i64],
+    exit: &[i64],
+    title: &[i64],
+    pooling: &[i64],
+    quantity: &[i64],
+) -> JudgedC
+    ensures { result ≡ flat_judged day (judge_answer (day_of day) table.now
+        (inputs_listed terms entry.now exit.now title.now pooling.now)
+        quantity.now) }
+{
+    let amounts = Amounts {
+        entries: entry,
+        exits: exit,
+        titles: title,
+        poolings: pooling,
+    };
+    let answer = gas_day::judge_hour(day.into(), table, terms, &amounts, quantity);
+    JudgedC::of(day, answer)
 }
 
 // ---- a closing

@@ -86,7 +86,7 @@ module _ (d : Day) (t : List ℤ) (g : Hour) where
         let l = length-sums (quantities i b) (after i b) ∙ length-quantities i b in
         ext_get_or (pos 0) (sums (quantities i b) (after i b)) b l
         (λ u h. sums_at (quantities i b) (after i b) u (omega (arith, l, length-quantities i b))
-        ∙ ap (λ (z : ℤ). get_or (quantities i b) u (pos 0) +ℤ z) (after_at i b u (omega (arith, l)))
+        ∙ ap (λ (z : ℤ). get_or (quantities i b) u (pos 0) +ℤ z) (after_at i b u)
         ∙ regained (get_or (quantities i b) u (pos 0)) (get_or b u (pos 0)))
 
     module _ {t' : List ℤ} (o' : Outputs) (et : t' ≡ hour_table d t g) (eq : o'.quantity.now ≡ hour_quantity d t g) (em : o'.money.now ≡ hour_money d t g) where
@@ -122,6 +122,6 @@ module _ (d : Day) (t : List ℤ) (g : Hour) where
             places = lt ∙ s.long;
             users = omega (arith, long_quantity, s.few);
             moneys = lm;
-            befores = omega (arith, long_quantity, r.befores, l.entries);
-            small = rw sums-left (positions_small _ f.positions);
+            befores = omega (arith, long_quantity, r.befores, l.amounts.entries);
+            small = rw sums-left (positions_small _ f.inputs.positions);
           }

@@ -80,3 +80,12 @@ module _ {A B C : Type 0} (f : A → B → C) where
   get_or-zip (a ∷ xs) [] i x y z h k = absurd (not-suc-le-zero k)
   get_or-zip (a ∷ xs) (b ∷ ys) zero x y z h k = refl
   get_or-zip (a ∷ xs) (b ∷ ys) (suc i) x y z h k = get_or-zip xs ys i x y z (le_of_suc-le-suc h) (le_of_suc-le-suc k)
+
+-- pointwise differences at any place: beyond both lists is 0, and 0 less 0 is 0
+pub less_at : (xs ys : List ℤ) → length xs ≡ length ys → (i : ℕ) → get_or (zip_with ◌-ℤ◌ xs ys) i (pos 0) ≡ get_or xs i (pos 0) -ℤ get_or ys i (pos 0)
+unfolding zip_with
+less_at [] [] e i = refl
+less_at [] (y ∷ ys) e i = absurd (omega arith)
+less_at (x ∷ xs) [] e i = absurd (omega arith)
+less_at (x ∷ xs) (y ∷ ys) e zero = refl
+less_at (x ∷ xs) (y ∷ ys) e (suc i) = less_at xs ys (omega arith) i

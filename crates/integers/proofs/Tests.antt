@@ -1,11 +1,13 @@
 -- Tests of signed numbers and of their ranges. Assumes nothing.
-use mathlib.Core.Path.{◌≡◌, refl, sym, ◌∙◌, subst}
+use mathlib.Core.Path.{◌≡◌, refl, sym, ap, ◌∙◌, subst}
 use mathlib.Core.Bool.{Bool, true, false, ◌&&◌}
-use Prim.Native.Nat.{ℕ, ◌≤◌}
+use Prim.Native.Nat.{ℕ, suc, ◌≤◌}
+use native.Mathlib.Omega.{arith}
+use borrow.Author.Tests.{eqb-true}
 use lib.Dec.{T}
 use lib.IntN.{ℤ, pos, negsuc, nat_abs}
 use lib.Signed.{lt_z, le_z, ◌≤ℤ◌, ◌<ℤ◌, non_neg}
-use Rattle.integers.specs.Ranges.{in_range, equal, natural}
+use Rattle.integers.specs.Ranges.{in_range, equal, is_zero, natural}
 use Rattle.integers.proofs.Linear.{lin1, lin2, lin3, diffs, linear, not_both}
 
 -- both tests hold
@@ -37,11 +39,18 @@ equal_true x y e = let k = and_true (le_z x y) (le_z y x) e in antisym x y k.0 k
     antisym : (x y : ℤ) → le_z x y ≡ true → le_z y x ≡ true → x ≡ y
     antisym = lin2 _ (λ a b c d. omega linear)
 
+pub le_self : (x : ℤ) → le_z x x ≡ true
+le_self = lin1 _ (λ a b. omega linear)
+
+pub equal-self : (x : ℤ) → equal x x ≡ true
+equal-self x = both_true (le_self x) (le_self x)
+
 pub equal_false : (x y : ℤ) → equal x y ≡ false → x ≡ y → ⊥
-equal_false x y e q = not_both (sym (both_true (self x) (self x)) ∙ subst (λ (z : ℤ). equal x z ≡ false) (sym q) e)
-  where
-    self : (x : ℤ) → le_z x x ≡ true
-    self = lin1 _ (λ a b. omega linear)
+equal_false x y e q = not_both (sym (equal-self x) ∙ subst (λ (z : ℤ). equal x z ≡ false) (sym q) e)
+
+pub is_zero_true : (x : ℤ) → is_zero x ≡ true → x ≡ pos 0
+is_zero_true (pos n) e = ap pos (eqb-true n 0 e)
+is_zero_true (negsuc n) e = absurd (omega (arith, eqb-true (suc n) 0 e))
 
 pub not_negative : (x : ℤ) → lt_z x (pos 0) ≡ false → T (non_neg x)
 not_negative (pos n) e = tt

@@ -51,7 +51,11 @@ accurate sizes total some i h =
     go true k = omega (arith, parts sizes total x, fraction-less sizes total some x)
     go false k = omega (arith, parts sizes total x, fraction-less sizes total some x)
 
--- less than 1 from the exact share, which is no more than the size
+-- less than 1 above the exact share, which is no more than the size where the total is no more than the sum
+pub near_at_most : (S total settled size : ℕ) → total ≤ S → settled * S < total * size + S → settled ≤ size
+near_at_most S total settled size le near =
+    omega (arith, lt_of_mul-lt-mul_right S {m = settled} {n = size + 1} (omega (arith, near, mul-le-mul_right size le)))
+
 pub no_more_than_size : NoMoreThanSize
 no_more_than_size sizes total some le i = go (ltb i (length sizes)) refl
   where
@@ -62,9 +66,7 @@ no_more_than_size sizes total some le i = go (ltb i (length sizes)) refl
     y = get_or (settled sizes total) i 0
 
     go : (b : Bool) → ltb i (length sizes) ≡ b → y ≤ x
-    go true e =
-        let near = (accurate sizes total some i (ltb-true i (length sizes) e)).0 in
-        omega (arith, lt_of_mul-lt-mul_right (sum sizes) {m = y} {n = x + 1} (omega (arith, near, mul-le-mul_right x le)))
+    go true e = near_at_most (sum sizes) total y x le (accurate sizes total some i (ltb-true i (length sizes) e)).0
     go false e =
         omega (arith, get_or-eq_default (settled sizes total) 0 {n = i} (omega (arith, settled-length sizes total, ltb-false i (length sizes) e)))
 

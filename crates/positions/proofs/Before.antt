@@ -1,8 +1,9 @@
 -- Laws of the positions before settlement of lent lists. Assumes nothing.
-use mathlib.Core.Path.{◌≡◌}
+use mathlib.Core.Path.{◌≡◌, sym, ◌∙◌}
 use mathlib.Core.Bool.{true}
 use mathlib.Core.List.{List}
 use Prim.Native.Nat.{ℕ, ◌<◌}
+use native.Mathlib.Omega.{arith}
 use lib.IntN.{ℤ, pos}
 use lib.ListN.{length, get_or}
 use Rattle.integers.specs.Lists.{every, AtMost}
@@ -11,12 +12,15 @@ use Rattle.integers.proofs.Tests.{and_true}
 use Rattle.rules.specs.declared.Amounts.{Amounts}
 use Rattle.rules.specs.declared.Day.{Day}
 use Rattle.rules.specs.declared.HourTerms.{HourTerms}
-use Rattle.rules.specs.declared.Outputs.{Outputs}
 use Rattle.rules.specs.Limits.{entry_most, exit_most, title_most, pooling_most, entry_fit, exit_fit, title_fit, pooling_fit}
 use Rattle.rules.specs.Days.{users, part, place}
-use Rattle.rules.specs.Hours.{hour_given, amounts, before}
+use Rattle.rules.specs.Hours.{hour_listed, amounts, before}
+use Rattle.rules.specs.Causes.{amounts_fit, before_fit}
+use Rattle.rules.specs.Guarantees.{InputsFit}
+use Rattle.rules.proofs.Zones.{length_part}
+use Rattle.rules.proofs.Accepted.{Sound, AmountLengths, part-fits}
 use Rattle.rules.proofs.Small.{entries_small, exits_small, titles_small, poolings_small}
-use Rattle.positions.specs.Before.{amounts_at, before_at, befores, all_fit}
+use Rattle.positions.specs.Before.{amounts_at, before_at, befores, all_fit, OneLength, Fit}
 
 module _ (p : List ℤ) (a : Amounts) where
   pub length-befores : length (befores p a) ≡ length a.entries.now
@@ -47,8 +51,30 @@ amounts_small a fit =
       pooling = poolings_small a.poolings.now m.1;
     }
 
--- the positions before settlement, by rule 1
-pub before_is : (d : Day) (t : List ℤ) (k : HourTerms) (a : Amounts) (o : Outputs) (s : List ℕ) → length a.entries.now ≡ users d
-    → before d t (hour_given k a o s) ≡ befores (part k.zone t) a
+-- the positions before settlement, by rule 1, whatever is lent to be filled
+pub before_is : (d : Day) (t : List ℤ) (k : HourTerms) (a : Amounts) (q m : List ℤ) (s : List ℕ) → length a.entries.now ≡ users d
+    → before d t (hour_listed k a.entries.now a.exits.now a.titles.now a.poolings.now q m s) ≡ befores (part k.zone t) a
 unfolding before befores before_at amounts_at place amounts
-before_is d t k a o s e = rw e
+before_is d t k a q m s e = rw e
+
+pub one_length : (a : Amounts) {n : ℕ} → AmountLengths n a.entries.now a.exits.now a.titles.now a.poolings.now → OneLength a
+one_length a l = record { exits = l.exits ∙ sym l.entries; titles = l.titles ∙ sym l.entries; poolings = l.poolings ∙ sym l.entries }
+
+-- what an hour's inputs are that have no cause: amounts in range, and positions before in range
+pub inputs_fit : (d : Day) (t : List ℤ) (k : HourTerms) (a : Amounts) (q m : List ℤ) (s : List ℕ)
+    → Sound d t k.zone → AmountLengths (users d) a.entries.now a.exits.now a.titles.now a.poolings.now
+    → InputsFit d t (hour_listed k a.entries.now a.exits.now a.titles.now a.poolings.now q m s)
+    → Fit (part k.zone t) a
+unfolding amounts_fit before_fit all_fit
+inputs_fit d t k a q m s sound l f = record {
+  range = record {
+    lent = record {
+      lists = one_length a l;
+      few = omega (arith, l.entries, sound.few);
+      room = omega (arith, l.entries, sound.few, length_part t sound.long sound.zoned);
+      positions = part-fits k.zone d t f.table;
+    };
+    fit = f.amounts;
+  };
+  positions = rw (before_is d t k a q m s l.entries) at f.positions;
+}

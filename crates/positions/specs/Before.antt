@@ -40,3 +40,8 @@ pub record Lent (p : List ℤ) (a : Amounts) : Type 0 where
 pub record InRange (p : List ℤ) (a : Amounts) : Type 0 where
   pub lent : Lent p a
   pub fit : all_fit a ≡ true
+
+-- and with every position before in its range
+pub record Fit (p : List ℤ) (a : Amounts) : Type 0 where
+  pub range : InRange p a
+  pub positions : every position_fit (befores p a) ≡ true

@@ -2,13 +2,13 @@
 
 #![tactic(auto)]
 
-ghost use Rattle.std.specs.Prelude.{◌≡◌, true, ◌≤◌, ◌<◌, nat_abs, ◌+ℤ◌, length};
+ghost use Rattle.std.specs.Prelude.{◌≡◌, true, ◌≤◌, ◌<◌, pos, nat_abs, ◌+ℤ◌, length, get_or};
 ghost use Rattle.std.specs.Int.Signed.{lt_z};
 ghost use Rattle.integers.specs.Lists.{sum_ℤ, AtMost};
 ghost use Rattle.rules.specs.Limits.{users_most, entry_most, exit_most, title_most, pooling_most, position_most, market_most};
 ghost use Rattle.rules.specs.Causes.{terms_fit};
 ghost use Rattle.rules.specs.Market.{imbalance_of};
-ghost use Rattle.positions.specs.Before.{amounts_at, all_fit, OneLength};
+ghost use Rattle.positions.specs.Before.{amounts_at, all_fit, befores, OneLength, InRange};
 ghost use Rattle.positions.specs.Against.{found};
 
 use rules::{Amounts, HourTerms};
@@ -53,6 +53,14 @@ pub fn before_of_user(position: i64, amounts: &Amounts, user: usize) -> i64
         amounts.titles[user],
         amounts.poolings[user],
     )
+}
+
+// The same of a user of a part of the table, in which the user's position stands at the same place.
+pub fn before_at(part: &[i64], amounts: &Amounts, user: usize) -> i64
+    requires { InRange part.now amounts.now × (user < length amounts.now.entries.now) }
+    ensures { result ≡ get_or (befores part.now amounts.now) user (pos 0) }
+{
+    before_of_user(part[user], amounts, user)
 }
 
 // The sum of the amounts or positions of all users.

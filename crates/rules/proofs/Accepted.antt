@@ -22,21 +22,19 @@ use Rattle.rules.specs.declared.HourTerms.{HourTerms}
 use Rattle.rules.specs.Limits.{length_least, length_most, threshold_most, users_fit, length_fit, zone_fit, position_fit, upper_fit, lower_fit}
 use Rattle.rules.specs.Days.{users, is_closed, first_place, part}
 use Rattle.rules.specs.Hours.{Hour, Closing}
-use Rattle.rules.specs.Causes.{hour_cause, closing_cause, day_fit, table_long, list_long, scratch_long, hour_long, closing_long, zone_open, hour_next, all_done, positions_fit, table_fit, prices_fit, terms_fit, amounts_fit, pooling_adds, before_fit}
+use Rattle.rules.specs.Causes.{inputs_cause, hour_cause, closing_cause, day_fit, table_long, list_long, scratch_long, amounts_long, hour_long, judge_long, closing_long, zone_open, hour_next, all_done, positions_fit, table_fit, prices_fit, terms_fit, amounts_fit, pooling_adds, before_fit}
 use Rattle.rules.specs.Refusals.{number}
 use Rattle.rules.specs.Answers.{hour_answer, hour_number, closing_answer, closing_number, number_by}
-use Rattle.rules.specs.Guarantees.{HourFit, ClosingFit}
+use Rattle.rules.specs.Guarantees.{InputsFit, HourFit, ClosingFit}
 use Rattle.rules.proofs.Refusing.{unless_none, required, number_none, number_with_day}
 use Rattle.rules.proofs.Zones.{Zone, zone_of_lem}
 
 -- ---- an hour is accepted if and only if no listed cause exists
 module _ (d : Day) (t : List ℤ) (g : Hour) where
-  pub hour_fit_lem : hour_cause d t g ≡ Ok tt → HourFit d t g
-  unfolding hour_cause
-  hour_fit_lem none =
-      let (day, n3) = required (day_fit d) _ _ none in
-      let (lengths, n4) = required (hour_long d t g) _ _ n3 in
-      let (zone, n5) = required (zone_fit g.terms.zone) _ _ n4 in
+  pub inputs_fit_lem : inputs_cause d t g ≡ Ok tt → InputsFit d t g
+  unfolding inputs_cause
+  inputs_fit_lem none =
+      let (zone, n5) = required (zone_fit g.terms.zone) _ _ none in
       let (open', n6) = required (zone_open g.terms.zone d) _ _ n5 in
       let (next, n7) = required (hour_next d g.terms) _ _ n6 in
       let (table, n8) = required (table_fit d t) _ _ n7 in
@@ -44,8 +42,6 @@ module _ (d : Day) (t : List ℤ) (g : Hour) where
       let (amounts, n10) = required (amounts_fit g) _ _ n9 in
       let (pooling, n11) = required (pooling_adds g) _ _ n10 in
       record {
-        day = day;
-        lengths = lengths;
         zone = zone;
         open' = open';
         next = next;
@@ -56,9 +52,20 @@ module _ (d : Day) (t : List ℤ) (g : Hour) where
         positions = unless_none (before_fit d t g) _ n11;
       }
 
+  pub fit_inputs : InputsFit d t g → inputs_cause d t g ≡ Ok tt
+  unfolding inputs_cause
+  fit_inputs f = rw (f.zone, f.open', f.next, f.table, f.terms, f.amounts, f.pooling, f.positions)
+
+  pub hour_fit_lem : hour_cause d t g ≡ Ok tt → HourFit d t g
+  unfolding hour_cause
+  hour_fit_lem none =
+      let (day, n3) = required (day_fit d) _ _ none in
+      let (lengths, n4) = required (hour_long d t g) _ _ n3 in
+      record { day = day; lengths = lengths; inputs = inputs_fit_lem n4 }
+
   pub fit_hour : HourFit d t g → hour_cause d t g ≡ Ok tt
   unfolding hour_cause
-  fit_hour f = rw (f.day, f.lengths, f.zone, f.open', f.next, f.table, f.terms, f.amounts, f.pooling, f.positions)
+  fit_hour f = rw (f.day, f.lengths) (fit_inputs f.inputs)
 
   pub hour_number_lem : hour_number (hour_answer d t g) ≡ number_by number (hour_cause d t g)
   unfolding hour_number hour_answer
@@ -135,7 +142,7 @@ pub table_long_lem : (t : List ℤ) → table_long t ≡ true → length t ≡ 2
 unfolding table_long
 table_long_lem t e = eqb-true (length t) 256 e
 
-sound_of : (d : Day) (t : List ℤ) (zone : ℤ) → day_fit d ≡ true → table_long t ≡ true → zone_fit zone ≡ true → Sound d t zone
+pub sound_of : (d : Day) (t : List ℤ) (zone : ℤ) → day_fit d ≡ true → table_long t ≡ true → zone_fit zone ≡ true → Sound d t zone
 sound_of d t zone day long zoned =
     let n = users_of_lem d day in
     record { some = n.0; few = n.1; long = table_long_lem t long; zoned = zone_of_lem zone zoned }
@@ -144,7 +151,7 @@ pub hour_sound : (d : Day) (t : List ℤ) (g : Hour) → hour_cause d t g ≡ Ok
 unfolding hour_long
 hour_sound d t g k =
     let f = hour_fit_lem d t g k in
-    sound_of d t g.terms.zone f.day (and_true (table_long t) _ f.lengths).0 f.zone
+    sound_of d t g.terms.zone f.day (and_true (table_long t) _ f.lengths).0 f.inputs.zone
 
 pub closing_sound : (d : Day) (t : List ℤ) (g : Closing) → closing_cause d t g ≡ Ok tt → Sound d t g.terms.zone
 unfolding closing_long
@@ -158,17 +165,33 @@ unfolding zone_open
 open_zone zone d e = not-true (is_closed zone d) e
 
 pub hour_open : (d : Day) (t : List ℤ) (g : Hour) → hour_cause d t g ≡ Ok tt → is_closed g.terms.zone d ≡ false
-hour_open d t g k = open_zone g.terms.zone d (hour_fit_lem d t g k).open'
+hour_open d t g k = open_zone g.terms.zone d (hour_fit_lem d t g k).inputs.open'
 
 pub closing_open : (d : Day) (t : List ℤ) (g : Closing) → closing_cause d t g ≡ Ok tt → is_closed g.terms.zone d ≡ false
 closing_open d t g k = open_zone g.terms.zone d (closing_fit d t g k).open'
 
 -- ---- the lists and the scratch have a place for each user
+pub record AmountLengths (n : ℕ) (entry exit title pooling : List ℤ) : Type 0 where
+  pub entries : length entry ≡ n
+  pub exits : length exit ≡ n
+  pub titles : length title ≡ n
+  pub poolings : length pooling ≡ n
+
+amount_lengths : (d : Day) (g : Hour) → amounts_long d g ≡ true → AmountLengths (users d) g.entry g.exit g.title g.pooling
+unfolding amounts_long list_long
+amount_lengths d g h =
+    let e = and_true (list_long d g.entry) _ h in
+    let x = and_true (list_long d g.exit) _ e.1 in
+    let n = and_true (list_long d g.title) (list_long d g.pooling) x.1 in
+    record {
+      entries = eqb-true _ _ e.0;
+      exits = eqb-true _ _ x.0;
+      titles = eqb-true _ _ n.0;
+      poolings = eqb-true _ _ n.1;
+    }
+
 pub record HourLengths (n : ℕ) (g : Hour) : Type 0 where
-  pub entries : length g.entry ≡ n
-  pub exits : length g.exit ≡ n
-  pub titles : length g.title ≡ n
-  pub poolings : length g.pooling ≡ n
+  pub amounts : AmountLengths n g.entry g.exit g.title g.pooling
   pub quantities : length g.quantity ≡ n
   pub moneys : length g.money ≡ n
   pub scratches : length g.scratch ≡ n
@@ -176,21 +199,25 @@ pub record HourLengths (n : ℕ) (g : Hour) : Type 0 where
 pub hour_lengths : (d : Day) (t : List ℤ) (g : Hour) → hour_long d t g ≡ true → HourLengths (users d) g
 unfolding hour_long list_long scratch_long
 hour_lengths d t g h =
-    let e = and_true (list_long d g.entry) _ (and_true (table_long t) _ h).1 in
-    let x = and_true (list_long d g.exit) _ e.1 in
-    let n = and_true (list_long d g.title) _ x.1 in
-    let i = and_true (list_long d g.pooling) _ n.1 in
-    let q = and_true (list_long d g.quantity) _ i.1 in
+    let a = and_true (amounts_long d g) _ (and_true (table_long t) _ h).1 in
+    let q = and_true (list_long d g.quantity) _ a.1 in
     let m = and_true (list_long d g.money) _ q.1 in
     record {
-      entries = eqb-true _ _ e.0;
-      exits = eqb-true _ _ x.0;
-      titles = eqb-true _ _ n.0;
-      poolings = eqb-true _ _ i.0;
+      amounts = amount_lengths d g a.0;
       quantities = eqb-true _ _ q.0;
       moneys = eqb-true _ _ m.0;
       scratches = eqb-true _ _ m.1;
     }
+
+pub record JudgeLengths (n : ℕ) (g : Hour) (qs : List ℤ) : Type 0 where
+  pub amounts : AmountLengths n g.entry g.exit g.title g.pooling
+  pub quantities : length qs ≡ n
+
+pub judge_lengths : (d : Day) (t : List ℤ) (g : Hour) (qs : List ℤ) → judge_long d t g qs ≡ true → JudgeLengths (users d) g qs
+unfolding judge_long list_long
+judge_lengths d t g qs h =
+    let a = and_true (amounts_long d g) (list_long d qs) (and_true (table_long t) _ h).1 in
+    record { amounts = amount_lengths d g a.0; quantities = eqb-true _ _ a.1 }
 
 pub record ClosingLengths (n : ℕ) (g : Closing) : Type 0 where
   pub quantities : length g.quantity ≡ n

@@ -62,7 +62,7 @@ module _ (d : Day) (t : List ℤ) (g : Hour) (k : hour_cause d t g ≡ Ok tt) wh
   hour_here u h =
       ap (λ (p : List ℤ). get_or p u (pos 0)) hour_part
       ∙ get_or-onto _ _ u (omega (arith, length-after (hour_imbalance d t g) (before d t g), length_before d t g))
-      ∙ after_at (hour_imbalance d t g) (before d t g) u (omega (arith, length_before d t g))
+      ∙ after_at (hour_imbalance d t g) (before d t g) u
       ∙ ap₂ ◌-ℤ◌ (get_or-tabulate _ (users d) u (pos 0) h) (ap (λ (l : List ℤ). get_or l u (pos 0)) (sym (by_none _ _ _ k)))
 
 -- ---- an accepted closing

@@ -21,15 +21,17 @@ use Rattle.rules.specs.Refusals.{number}
 use Rattle.rules.specs.Market.{Imbalance, within, excess, shortfall, imbalance, caused, causers, marks, outcome}
 use Rattle.rules.specs.Causes.{hour_cause, before_fit}
 use Rattle.rules.specs.Answers.{hour_answer, hour_imbalance, hour_quantity, number_by}
+use Rattle.rules.specs.Judging.{judge_number}
 use Rattle.rules.specs.History.{opened, first_sum, closes}
-use Rattle.rules.specs.Guarantees.{BeginsAtZero, LengthKept, AcceptedIfFit, Conservation, ClosedIsZero, ClosedIsMarked, Accuracy, OutcomeByThresholds, MarksAreCausers, AsSettlingACopy}
+use Rattle.rules.specs.Guarantees.{BeginsAtZero, LengthKept, AcceptedIfFit, Conservation, ClosedIsZero, ClosedIsMarked, Accuracy, OutcomeByThresholds, MarksAreCausers, AsSettlingACopy, AcceptedIfRight, OwnAccepted, AcceptedKeeps}
 use Rattle.rules.proofs.Refusing.{by_none, with_day_none}
 use Rattle.rules.proofs.Zones.{zone_of_lem}
 use Rattle.rules.proofs.Accepted.{length_of, hour_fit_lem, fit_hour, hour_sound, hour_number_lem, hour_none, closing_fit, fit_closing, closing_number_lem, closing_none, thresholds_sound}
 use Rattle.rules.proofs.Marking.{marked_at, marks_number}
-use Rattle.rules.proofs.Settling.{view, settles}
+use Rattle.rules.proofs.Settling.{view, kept, settles}
 use Rattle.rules.proofs.Telling.{tells}
 use Rattle.rules.proofs.Previewing.{as_a_copy, turned_away}
+use Rattle.rules.proofs.Judging.{judged_long, hour_view, accepted_right, right_accepted, judged_read, own_judged}
 use Rattle.rules.proofs.Conserving.{length_before, positions_left, length_run, balance, opened_by, open_users, open_length, open_table_lem, open_zero, new_hours, new_open, marked-run, closed_zero}
 
 pub begins_at_zero : BeginsAtZero
@@ -71,9 +73,9 @@ unfolding hour_imbalance hour_quantity before_fit
 accuracy d t g a =
     let k = hour_none d t g a in
     let f = hour_fit_lem d t g k in
-    let b = thresholds_sound g.terms f.terms in
+    let b = thresholds_sound g.terms f.inputs.terms in
     rw (by_none (hour_cause d t g) _ _ k, positions_left d t g k)
-    (settles g.terms.upper g.terms.lower (before d t g) b.0 b.1 f.positions)
+    (settles g.terms.upper g.terms.lower (before d t g) b.0 b.1 f.inputs.positions)
 
 -- ---- the outcome of an accepted hour
 
@@ -87,7 +89,7 @@ pub outcome_by_thresholds : OutcomeByThresholds
 unfolding hour_imbalance imbalance
 outcome_by_thresholds d t g d' o e =
     let (k, q) = done_by d t g d' o e in
-    let b = thresholds_sound g.terms (hour_fit_lem d t g k).terms in
+    let b = thresholds_sound g.terms (hour_fit_lem d t g k).inputs.terms in
     rw q at (tells g.terms.upper g.terms.lower (sum_ℤ (before d t g)) b.0 b.1 (before d t g) (view g.terms.upper g.terms.lower (sum_ℤ (before d t g))))
 
 -- ---- the marks
@@ -116,3 +118,21 @@ marks_are_causers d t g d' side m e =
 
 pub as_settling_a_copy : AsSettlingACopy
 as_settling_a_copy d t g lent = (as_a_copy d t g lent, turned_away d t g lent)
+
+-- ---- the judge
+
+pub accepted_if_right : AcceptedIfRight
+accepted_if_right d t g qs = (accepted_right d t g qs, λ k. right_accepted d t g qs k.0 k.1)
+
+pub accepted_keeps : AcceptedKeeps
+unfolding before_fit
+accepted_keeps d t g qs e =
+    let (f, right) = accepted_right d t g qs e in
+    let b = thresholds_sound g.terms f.inputs.terms in
+    kept g.terms.upper g.terms.lower (before d t g) b.0 b.1 f.inputs.positions (hour_view d t g)
+    (judged_long d t g qs f) right
+
+pub own_accepted : OwnAccepted
+own_accepted d t g e =
+    let (fit, right) = own_judged d t g (hour_none d t g e) in
+    ap judge_number (judged_read d t g (hour_quantity d t g)) ∙ right_accepted d t g (hour_quantity d t g) fit right

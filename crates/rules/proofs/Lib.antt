@@ -8,4 +8,5 @@ pub mod Settling
 pub mod Telling
 pub mod Conserving
 mod Previewing
+pub mod Judging
 pub mod Guarantees

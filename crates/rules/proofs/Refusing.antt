@@ -66,6 +66,9 @@ number_some cause.Amounts = lit< tt
 number_some cause.Pooling = lit< tt
 number_some cause.Positions = lit< tt
 number_some cause.DayLength = lit< tt
+number_some cause.Signs = lit< tt
+number_some cause.Shares = lit< tt
+number_some cause.Sum = lit< tt
 
 pub number_none : (c : Result Unit Cause) → number_by number c ≡ 0 → c ≡ Ok tt
 number_none (Ok u) e = refl

@@ -1,29 +1,26 @@
 -- Rules 2 to 5: the market after, and each user. Assumes nothing.
-use mathlib.Core.Path.{◌≡◌, refl, sym, ap, ◌∙◌, subst}
+use mathlib.Core.Path.{◌≡◌, refl, sym, ap, ◌∙◌}
 use mathlib.Core.Bool.{Bool, true, false, cond}
-use mathlib.Core.List.{List, [], ◌∷◌, map}
-use Prim.Native.Nat.{ℕ, zero, suc, ◌+◌, ◌*◌, ◌≤◌, ◌<◌}
+use mathlib.Core.List.{List, [], ◌∷◌, map, zip_with}
+use Prim.Native.Nat.{ℕ, zero, suc, ◌+◌, ◌≤◌, ◌<◌, zero-le}
 use native.Mathlib.Omega.{arith}
 use native.Mathlib.Nat.{le_refl}
 use borrow.Author.Tests.{ltb-true, ltb-false, le-ltb, le-leb, leb-true}
 use lib.Dec.{ltb}
 use lib.IntN.{ℤ, pos, negsuc, nat_abs, neg_ℤ, ◌+ℤ◌, ◌-ℤ◌, +ℤ_idr, neg_ℤ-+ℤ}
-use lib.ListN.{length, get_or, length-map, get_or-eq_default}
+use lib.ListN.{length, get_or, length-map, get_or-map, get_or-eq_default}
 use lib.Signed.{lt_z, le_z}
 use Rattle.integers.specs.Ranges.{natural}
-use Rattle.integers.specs.Lists.{sum, sum_ℤ, every}
+use Rattle.integers.specs.Lists.{sum, sum_ℤ, every, AtMost}
 use Rattle.integers.proofs.Linear.{lin1, lin2, lin3, lin4, diffs, linear, not_both}
 use Rattle.integers.proofs.Sizes.{size-neg}
-use Rattle.integers.proofs.Tests.{both_true, le_of_test, test_of_le}
-use Rattle.integers.proofs.Counts.{get_or-map_at}
-use Rattle.integers.proofs.Sums.{sum-zip-sub, length-zip, get_or-zip}
-use Rattle.integers.proofs.Passes.{every_at}
-use Rattle.largest_remainder.specs.Rule.{settled}
-use Rattle.largest_remainder.proofs.Guarantees.{adds_up, accurate, no_more_than_size, settled_long}
+use Rattle.integers.proofs.Tests.{both_true, le_self, le_of_test, test_of_le}
+use Rattle.integers.proofs.Sums.{sum-zip-sub, length-zip, less_at}
+use Rattle.largest_remainder.proofs.Guarantees.{adds_up, accurate, near_at_most, no_more_than_size, settled_long}
 use Rattle.rules.specs.Limits.{position_most, position_fit}
 use Rattle.rules.specs.Market.{Imbalance, within, excess, shortfall, imbalance_of, imbalance, total, caused, size, sizes, settled_sizes, signed, quantities, after}
-use Rattle.rules.specs.Guarantees.{UserAccurate, Accurate}
-use Rattle.rules.proofs.Small.{position_small}
+use Rattle.rules.specs.Guarantees.{Near, UserAccurate, Accurate, Right, Kept}
+use Rattle.rules.proofs.Small.{positions_small}
 
 -- ---- rule 2, by its three cases
 pub data View (upper lower market : ℤ) : Imbalance → Type 0 where
@@ -49,6 +46,25 @@ view upper lower m = go (lt_z upper m) refl (lt_z m lower) refl
     go false p false q = is_within (not_less upper m p) (not_less m lower q)
 
 -- ---- lengths and places of the lists
+-- who has no position did not cause, and has no size; and the sign of nothing is nothing
+pub caused-none : (i : Imbalance) → caused i (pos 0) ≡ false
+unfolding caused
+caused-none within = refl
+caused-none (excess e) = refl
+caused-none (shortfall e) = refl
+
+size-none : (i : Imbalance) → size i (pos 0) ≡ 0
+unfolding size caused
+size-none within = refl
+size-none (excess e) = refl
+size-none (shortfall e) = refl
+
+pub signed-none : (i : Imbalance) → signed i 0 ≡ pos 0
+unfolding signed
+signed-none within = refl
+signed-none (excess e) = refl
+signed-none (shortfall e) = refl
+
 module _ (i : Imbalance) (ps : List ℤ) where
   pub length-sizes : length (sizes i ps) ≡ length ps
   unfolding sizes
@@ -66,18 +82,19 @@ module _ (i : Imbalance) (ps : List ℤ) where
   unfolding after
   length-after = length-zip ◌-ℤ◌ ps (quantities i ps) (sym length-quantities)
 
-  module _ (u : ℕ) (h : u < length ps) where
-    size_at : get_or (sizes i ps) u 0 ≡ size i (get_or ps u (pos 0))
+  -- a place beyond the users holds nothing
+  module _ (u : ℕ) where
+    pub size_at : get_or (sizes i ps) u 0 ≡ size i (get_or ps u (pos 0))
     unfolding sizes
-    size_at = get_or-map_at (size i) ps u 0 (pos 0) h
+    size_at = ap (get_or (sizes i ps) u) (sym (size-none i)) ∙ get_or-map (size i) ps u (pos 0)
 
     quantity_at : get_or (quantities i ps) u (pos 0) ≡ signed i (get_or (settled_sizes i ps) u 0)
     unfolding quantities
-    quantity_at = get_or-map_at (signed i) (settled_sizes i ps) u (pos 0) 0 (omega (arith, length-settled))
+    quantity_at = ap (get_or (quantities i ps) u) (sym (signed-none i)) ∙ get_or-map (signed i) (settled_sizes i ps) u 0
 
     pub after_at : get_or (after i ps) u (pos 0) ≡ get_or ps u (pos 0) -ℤ get_or (quantities i ps) u (pos 0)
     unfolding after
-    after_at = get_or-zip ◌-ℤ◌ ps (quantities i ps) u (pos 0) (pos 0) (pos 0) h (omega (arith, length-quantities))
+    after_at = less_at ps (quantities i ps) (sym length-quantities) u
 
 -- ---- a causer's size is its position, or its negated position, as a natural number
 -- whoever is below zero in an excess has no size
@@ -99,6 +116,18 @@ unfolding size caused natural
 size_shortfall n (pos zero) = refl
 size_shortfall n (pos (suc m)) = rw (le-ltb (suc m) 0 (omega arith))
 size_shortfall n (negsuc m) = refl
+
+-- no size is above its position's
+pub size-le : (i : Imbalance) (p : ℤ) → size i p ≤ nat_abs p
+unfolding size
+size-le i p = go (caused i p)
+  where
+    go : (b : Bool) → cond b (nat_abs p) 0 ≤ nat_abs p
+    go true = le_refl (nat_abs p)
+    go false = zero-le
+
+pub sizes_small : (i : Imbalance) (ps : List ℤ) → AtMost position_most ps → (u : ℕ) → get_or (sizes i ps) u 0 ≤ position_most
+sizes_small i ps s u = omega (arith, size_at i ps u, size-le i (get_or ps u (pos 0)), s.at u)
 
 -- no number is above what it is as a natural
 le-natural : (p : ℤ) → le_z p (pos (natural p)) ≡ true
@@ -158,13 +187,22 @@ sum-signed (excess e) (n ∷ ns) = rw (sum-signed (excess e) ns)
 sum-signed (shortfall e) [] = refl
 sum-signed (shortfall e) (n ∷ ns) = rw (sum-signed (shortfall e) ns) (sym (neg_ℤ-+ℤ (pos n) (pos (sum ns))))
 
-sum-after : (i : Imbalance) (ps : List ℤ) → sum_ℤ (after i ps) ≡ sum_ℤ ps -ℤ signed i (sum (settled_sizes i ps))
-unfolding after quantities
-sum-after i ps = sum-zip-sub ps (quantities i ps) (sym (length-quantities i ps)) ∙ ap (λ (x : ℤ). sum_ℤ ps -ℤ x) (sum-signed i (settled_sizes i ps))
-
 sum-settled : (i : Imbalance) (ps : List ℤ) → Shareable i ps → sum (settled_sizes i ps) ≡ total i
 unfolding settled_sizes
 sum-settled i ps a = adds_up (sizes i ps) (total i) a.some
+
+-- what rule 5 makes of a size has that sign, and is of that size where somebody caused
+sign-signed : (i : Imbalance) (n : ℕ) → signed i n ≡ signed i (nat_abs (signed i n))
+unfolding signed
+sign-signed within n = refl
+sign-signed (excess e) n = refl
+sign-signed (shortfall e) n = rw (size-neg (pos n)) refl
+
+size-signed : (i : Imbalance) (n : ℕ) (p : ℤ) → caused i p ≡ true → nat_abs (signed i n) ≡ n
+unfolding signed caused
+size-signed within n p e = not_both (sym e)
+size-signed (excess _) n p e = refl
+size-signed (shortfall _) n p e = size-neg (pos n)
 
 -- the sizes of the quantities are the settled sizes
 sizes_within : (ns : List ℕ) → sum (map nat_abs (map (signed within) ns)) ≡ 0
@@ -189,42 +227,24 @@ left_excess = lin3 _ (λ a b c d e f. simp diffs (omega linear))
 left_shortfall : (l m e : ℤ) → e ≡ l -ℤ m → m -ℤ neg_ℤ e ≡ l
 left_shortfall = lin3 _ (λ a b c d e f. simp diffs (omega linear))
 
-le_self : (x : ℤ) → le_z x x ≡ true
-le_self = lin1 _ (λ a b. omega linear)
-
 le_zero : (l u : ℤ) → le_z l (pos 0) ≡ true → le_z (pos 0) u ≡ true → le_z l u ≡ true
 le_zero = lin2 _ (λ a b c d. simp diffs (omega linear))
 
-record MarketAfter (upper lower : ℤ) (i : Imbalance) (ps : List ℤ) : Type 0 where
-  not_above : le_z (sum_ℤ (after i ps)) upper ≡ true
-  not_below : le_z lower (sum_ℤ (after i ps)) ≡ true
-  adds : sum (map nat_abs (quantities i ps)) ≡ total i
+-- the market position m less what is settled of it
+record MarketAfter (upper lower left : ℤ) : Type 0 where
+  not_above : le_z left upper ≡ true
+  not_below : le_z lower left ≡ true
 
-market_after : (upper lower : ℤ) (ps : List ℤ) → le_z (pos 0) upper ≡ true → le_z lower (pos 0) ≡ true → {i : Imbalance}
-    → View upper lower (sum_ℤ ps) i → MarketAfter upper lower i ps
-unfolding signed total quantities
-market_after upper lower ps top bottom (is_within a b) =
-    record {
-      not_above = rw (sum-after within ps, +ℤ_idr (sum_ℤ ps)) a;
-      not_below = rw (sum-after within ps, +ℤ_idr (sum_ℤ ps)) b;
-      adds = sizes_within (settled_sizes within ps);
-    }
-market_after upper lower ps top bottom (is_excess {n = n} a b) =
-    let s = sum-settled (excess n) ps (share_excess upper lower ps top bottom n a b) in
-    let e : sum_ℤ (after (excess n) ps) ≡ upper = sum-after (excess n) ps ∙ ap (λ (k : ℕ). sum_ℤ ps -ℤ pos k) s ∙ left_excess upper (sum_ℤ ps) (pos n) b in
-    record {
-      not_above = rw e (le_self upper);
-      not_below = rw e (le_zero lower upper bottom top);
-      adds = sizes_excess n (settled_sizes (excess n) ps) ∙ s;
-    }
-market_after upper lower ps top bottom (is_shortfall {n = n} a b) =
-    let s = sum-settled (shortfall n) ps (share_shortfall upper lower ps top bottom n a b) in
-    let e : sum_ℤ (after (shortfall n) ps) ≡ lower = sum-after (shortfall n) ps ∙ ap (λ (k : ℕ). sum_ℤ ps -ℤ neg_ℤ (pos k)) s ∙ left_shortfall lower (sum_ℤ ps) (pos n) b in
-    record {
-      not_above = rw e (le_zero lower upper bottom top);
-      not_below = rw e (le_self lower);
-      adds = sizes_shortfall n (settled_sizes (shortfall n) ps) ∙ s;
-    }
+market_after : (upper lower m : ℤ) → le_z (pos 0) upper ≡ true → le_z lower (pos 0) ≡ true → {i : Imbalance} → View upper lower m i
+    → MarketAfter upper lower (m -ℤ signed i (total i))
+unfolding signed total
+market_after upper lower m top bottom (is_within a b) = record { not_above = rw (+ℤ_idr m) a; not_below = rw (+ℤ_idr m) b }
+market_after upper lower m top bottom (is_excess {n = n} a b) =
+    let e = left_excess upper m (pos n) b in
+    record { not_above = rw e (le_self upper); not_below = rw e (le_zero lower upper bottom top) }
+market_after upper lower m top bottom (is_shortfall {n = n} a b) =
+    let e = left_shortfall lower m (pos n) b in
+    record { not_above = rw e (le_zero lower upper bottom top); not_below = rw e (le_self lower) }
 
 -- ---- one user
 
@@ -300,121 +320,129 @@ left_purchase p n s =
       smaller = omega (arith, size-neg (neg_ℤ p -ℤ n), size-neg p, k.smaller);
     })
 
--- the user's record, from what its side gives
-user_accurate : (i : Imbalance) (S : ℕ) (p q : ℤ) → (caused i p ≡ false → q ≡ pos 0) → q ≡ signed i (nat_abs q)
-    → (caused i p ≡ true → (nat_abs q * S < total i * nat_abs p + S) × (total i * nat_abs p < nat_abs q * S + S))
-    → position_fit p ≡ true → Left p (p -ℤ q) → UserAccurate i S p q (p -ℤ q)
-user_accurate i S p q uncaused sign near fit left = record {
-  uncaused = uncaused;
-  sign = sign;
-  near = near;
-  rest = refl;
-  not_below_zero = λ h. le_of_test (left.above (test_of_le h));
-  not_above_zero = λ h. le_of_test (left.below (test_of_le h));
-  in_range = position_fit_lem (p -ℤ q) (omega (arith, left.smaller, position_small p fit));
-}
+-- what a quantity of no more than the causer's size leaves
+left_by : (i : Imbalance) (p q : ℤ) → q ≡ signed i (nat_abs q) → nat_abs q ≤ size i p → Left p (p -ℤ q)
+unfolding signed
+left_by within p q s h =
+    rw (s, +ℤ_idr p) (record { above = λ e. e; below = λ e. e; smaller = le_refl (nat_abs p) })
+left_by (excess e) p q s h = rw s (left_sale p _ (sale (nat_abs q) p (rw (size_excess e p) at h)))
+left_by (shortfall e) p q s h = rw s (left_purchase p _ (sale (nat_abs q) (neg_ℤ p) (rw (size_shortfall e p) at h)))
 
-module _ (S n : ℕ) (p : ℤ) (fit : position_fit p ≡ true) where
-  user_within : UserAccurate within S p (pos 0) (p -ℤ pos 0)
-  unfolding caused signed natural
-  user_within =
-      user_accurate within S p (pos 0) (λ h. refl) refl (λ h. not_both (sym h)) fit
-      (rw (+ℤ_idr p) (record { above = λ e. e; below = λ e. e; smaller = le_refl (nat_abs p) }))
+-- ---- quantities that are right, ours or an operator's
+pub no_more_than_own : (i : Imbalance) (S : ℕ) (p q : ℤ) → total i ≤ S → (caused i p ≡ false → q ≡ pos 0) → (caused i p ≡ true → Near i S p q) → nat_abs q ≤ size i p
+unfolding size
+no_more_than_own i S p q enough none near = go (caused i p) refl
+  where
+    go : (b : Bool) → caused i p ≡ b → nat_abs q ≤ cond b (nat_abs p) 0
+    go true e = near_at_most S (total i) (nat_abs q) (nat_abs p) enough (near e).0
+    go false e = rw (none e) (le_refl 0)
 
-  user_excess : (e : ℕ) → n ≤ natural p → (n * S < e * natural p + S) × (e * natural p < n * S + S) → UserAccurate (excess e) S p (pos n) (p -ℤ pos n)
-  unfolding caused signed total natural
-  user_excess e le near =
-      let s = sale n p le in
-      user_accurate (excess e) S p (pos n) (λ h. s.nothing (not_less (pos 0) p h)) refl
-      (λ h. subst (λ (m : ℕ). (n * S < e * m + S) × (e * m < n * S + S)) (whole p h) near) fit (left_sale p (pos n) s)
-    where
-      whole : (p : ℤ) → lt_z (pos 0) p ≡ true → natural p ≡ nat_abs p
-      whole (pos m) h = refl
-      whole (negsuc m) h = not_both (sym h)
+module _ {i : Imbalance} {ps qs : List ℤ} (right : Right i ps qs) (enough : total i ≤ sum (sizes i ps)) (u : ℕ) where
+  user_kept : AtMost position_most ps
+      → UserAccurate i (sum (sizes i ps)) (get_or ps u (pos 0)) (get_or qs u (pos 0)) (get_or ps u (pos 0) -ℤ get_or qs u (pos 0))
+  user_kept small =
+      let left = left_by i _ _ (right.sign u) (no_more_than_own i _ _ _ enough (right.only_causers u) (right.near u)) in
+      record {
+        uncaused = right.only_causers u;
+        sign = right.sign u;
+        near = right.near u;
+        rest = refl;
+        not_below_zero = λ h. le_of_test (left.above (test_of_le h));
+        not_above_zero = λ h. le_of_test (left.below (test_of_le h));
+        in_range = position_fit_lem _ (omega (arith, left.smaller, small.at u));
+      }
 
-  user_shortfall : (e : ℕ) → n ≤ natural (neg_ℤ p) → (n * S < e * natural (neg_ℤ p) + S) × (e * natural (neg_ℤ p) < n * S + S)
-      → UserAccurate (shortfall e) S p (neg_ℤ (pos n)) (p -ℤ neg_ℤ (pos n))
-  unfolding caused signed total natural
-  user_shortfall e le near =
-      let s = sale n (neg_ℤ p) le in
-      let size = size-neg (pos n) in
-      user_accurate (shortfall e) S p (neg_ℤ (pos n)) (λ h. ap neg_ℤ (s.nothing (neg-le (pos 0) p (not_less p (pos 0) h))))
-      (ap (λ (m : ℕ). neg_ℤ (pos m)) (sym size))
-      (λ h. rw size (subst (λ (m : ℕ). (n * S < e * m + S) × (e * m < n * S + S)) (whole p h) near)) fit (left_purchase p (pos n) s)
-    where
-      whole : (p : ℤ) → lt_z p (pos 0) ≡ true → natural (neg_ℤ p) ≡ nat_abs p
-      whole (pos m) h = absurd (omega (arith, ltb-true m 0 h))
-      whole (negsuc m) h = refl
-
--- ---- all users
 module _ (upper lower : ℤ) (ps : List ℤ) (top : le_z (pos 0) upper ≡ true) (bottom : le_z lower (pos 0) ≡ true)
     (fit : every position_fit ps ≡ true) where
-  module _ (u : ℕ) (h : u < length ps) where
-    share_le : (i : Imbalance) → Shareable i ps → get_or (settled (sizes i ps) (total i)) u 0 ≤ size i (get_or ps u (pos 0))
-    share_le i a = rw (size_at i ps u h) at (no_more_than_size (sizes i ps) (total i) a.some a.enough u)
+  -- the total is within the sizes, whoever caused
+  pub total_enough : {i : Imbalance} → View upper lower (sum_ℤ ps) i → total i ≤ sum (sizes i ps)
+  unfolding total
+  total_enough (is_within a b) = zero-le
+  total_enough (is_excess {n = n} a b) = (share_excess upper lower ps top bottom n a b).enough
+  total_enough (is_shortfall {n = n} a b) = (share_shortfall upper lower ps top bottom n a b).enough
 
-    share_near : (i : Imbalance) → Shareable i ps
-        → (get_or (settled (sizes i ps) (total i)) u 0 * sum (sizes i ps) < total i * size i (get_or ps u (pos 0)) + sum (sizes i ps))
-        × (total i * size i (get_or ps u (pos 0)) < get_or (settled (sizes i ps) (total i)) u 0 * sum (sizes i ps) + sum (sizes i ps))
-    share_near i a = rw (size_at i ps u h) at (accurate (sizes i ps) (total i) a.some u (omega (arith, length-sizes i ps)))
+  pub kept : {i : Imbalance} → View upper lower (sum_ℤ ps) i → {qs : List ℤ} → length ps ≡ length qs → Right i ps qs
+      → Kept upper lower i ps qs (zip_with ◌-ℤ◌ ps qs)
+  kept {i} w {qs} long right =
+      let market : sum_ℤ (zip_with ◌-ℤ◌ ps qs) ≡ sum_ℤ ps -ℤ signed i (total i) = sum-zip-sub ps qs long ∙ ap (λ (x : ℤ). sum_ℤ ps -ℤ x) right.adds_up in
+      let m = market_after upper lower (sum_ℤ ps) top bottom w in
+      record {
+        not_above = le_of_test (rw market m.not_above);
+        not_below = le_of_test (rw market m.not_below);
+        each = λ u. rw (less_at ps qs long u) (user_kept right (total_enough w) u (positions_small ps fit));
+      }
 
-    user_share : {i : Imbalance} → View upper lower (sum_ℤ ps) i
-        → UserAccurate i (sum (sizes i ps)) (get_or ps u (pos 0)) (signed i (get_or (settled (sizes i ps) (total i)) u 0)) (get_or ps u (pos 0) -ℤ signed i (get_or (settled (sizes i ps) (total i)) u 0))
-    unfolding signed total
-    user_share (is_within a b) = user_within _ 0 (get_or ps u (pos 0)) (every_at position_fit ps u (pos 0) fit h)
-    user_share (is_excess {n = e} a b) =
-        let k = share_excess upper lower ps top bottom e a b in
-        let p = get_or ps u (pos 0) in
-        user_excess _ _ p (every_at position_fit ps u (pos 0) fit h) e (rw (size_excess e p) at (share_le (excess e) k))
-        (rw (size_excess e p) at (share_near (excess e) k))
-    user_share (is_shortfall {n = e} a b) =
-        let k = share_shortfall upper lower ps top bottom e a b in
-        let p = get_or ps u (pos 0) in
-        user_shortfall _ _ p (every_at position_fit ps u (pos 0) fit h) e (rw (size_shortfall e p) at (share_le (shortfall e) k))
-        (rw (size_shortfall e p) at (share_near (shortfall e) k))
+  -- ---- our own quantities are right
+  -- what is settled counts only where there is something to share
+  signed_eq : {i : Imbalance} → View upper lower (sum_ℤ ps) i → {m n : ℕ} → (Shareable i ps → m ≡ n) → signed i m ≡ signed i n
+  unfolding signed
+  signed_eq (is_within a b) same = refl
+  signed_eq (is_excess {n = n} a b) same = ap pos (same (share_excess upper lower ps top bottom n a b))
+  signed_eq (is_shortfall {n = n} a b) same = ap (λ (m : ℕ). neg_ℤ (pos m)) (same (share_shortfall upper lower ps top bottom n a b))
 
-  -- a place beyond the users
-  user_none : (i : Imbalance) (S : ℕ) → UserAccurate i S (pos 0) (pos 0) (pos 0)
-  unfolding caused signed natural
-  user_none i S =
-      user_accurate i S (pos 0) (pos 0) (λ h. refl) (none i) (λ h. not_both (sym h ∙ never i))
-      (position_fit_lem (pos 0) (omega arith)) (record { above = λ e. e; below = λ e. e; smaller = le_refl 0 })
-    where
-      none : (i : Imbalance) → pos 0 ≡ signed i 0
-      none within = refl
-      none (excess e) = refl
-      none (shortfall e) = refl
+  sum-quantities : {i : Imbalance} → View upper lower (sum_ℤ ps) i → sum_ℤ (quantities i ps) ≡ signed i (total i)
+  unfolding quantities
+  sum-quantities {i} w = sum-signed i (settled_sizes i ps) ∙ signed_eq w (sum-settled i ps)
 
-      never : (i : Imbalance) → caused i (pos 0) ≡ false
-      never within = refl
-      never (excess e) = refl
-      never (shortfall e) = refl
+  sizes-quantities : {i : Imbalance} → View upper lower (sum_ℤ ps) i → sum (map nat_abs (quantities i ps)) ≡ total i
+  unfolding quantities total
+  sizes-quantities (is_within a b) = sizes_within (settled_sizes within ps)
+  sizes-quantities (is_excess {n = n} a b) =
+      sizes_excess n _ ∙ sum-settled (excess n) ps (share_excess upper lower ps top bottom n a b)
+  sizes-quantities (is_shortfall {n = n} a b) =
+      sizes_shortfall n _ ∙ sum-settled (shortfall n) ps (share_shortfall upper lower ps top bottom n a b)
 
-  user_any : {i : Imbalance} → View upper lower (sum_ℤ ps) i → (u : ℕ)
-      → UserAccurate i (sum (sizes i ps)) (get_or ps u (pos 0)) (get_or (quantities i ps) u (pos 0)) (get_or (after i ps) u (pos 0))
-  unfolding settled_sizes
-  user_any {i} w u = go (ltb u (length ps)) refl
-    where
-      go : (b : Bool) → ltb u (length ps) ≡ b
-          → UserAccurate i (sum (sizes i ps)) (get_or ps u (pos 0)) (get_or (quantities i ps) u (pos 0)) (get_or (after i ps) u (pos 0))
-      go true e = let h = ltb-true u (length ps) e in rw (after_at i ps u h, quantity_at i ps u h) (user_share u h w)
-      go false e =
-          let h = ltb-false u (length ps) e in
-          rw (
-            get_or-eq_default ps (pos 0) {n = u} h,
-            get_or-eq_default (quantities i ps) (pos 0) {n = u} (omega (arith, length-quantities i ps)),
-            get_or-eq_default (after i ps) (pos 0) {n = u} (omega (arith, length-after i ps)),
-          ) (user_none i (sum (sizes i ps)))
+  -- where somebody caused there is something to share among
+  shareable : {i : Imbalance} → View upper lower (sum_ℤ ps) i → (p : ℤ) → caused i p ≡ true → Shareable i ps
+  unfolding caused
+  shareable (is_within a b) p e = not_both (sym e)
+  shareable (is_excess {n = n} a b) p e = share_excess upper lower ps top bottom n a b
+  shareable (is_shortfall {n = n} a b) p e = share_shortfall upper lower ps top bottom n a b
+
+  -- who did not cause is settled for nothing
+  module _ (u : ℕ) where
+    settled-none : (i : Imbalance) → Shareable i ps → caused i (get_or ps u (pos 0)) ≡ false → get_or (settled_sizes i ps) u 0 ≡ 0
+    unfolding settled_sizes size
+    settled-none i a e =
+        let none : size i (get_or ps u (pos 0)) ≡ 0 = rw e refl in
+        omega (arith, no_more_than_size (sizes i ps) (total i) a.some a.enough u, size_at i ps u, none)
+
+    only_own : {i : Imbalance} → View upper lower (sum_ℤ ps) i → caused i (get_or ps u (pos 0)) ≡ false → get_or (quantities i ps) u (pos 0) ≡ pos 0
+    only_own {i} w e = quantity_at i ps u ∙ signed_eq w (λ a. settled-none i a e) ∙ signed-none i
+
+    sign_own : (i : Imbalance) → get_or (quantities i ps) u (pos 0) ≡ signed i (nat_abs (get_or (quantities i ps) u (pos 0)))
+    sign_own i = rw (quantity_at i ps u) (sign-signed i (get_or (settled_sizes i ps) u 0))
+
+    inside : (i : Imbalance) → caused i (get_or ps u (pos 0)) ≡ true → u < length ps
+    inside i e = go (ltb u (length ps)) refl
+      where
+        go : (b : Bool) → ltb u (length ps) ≡ b → u < length ps
+        go true k = ltb-true u (length ps) k
+        go false k =
+            not_both (sym (rw (get_or-eq_default ps (pos 0) {n = u} (ltb-false u (length ps) k), caused-none i) at e))
+
+    near_own : {i : Imbalance} → View upper lower (sum_ℤ ps) i → caused i (get_or ps u (pos 0)) ≡ true
+        → Near i (sum (sizes i ps)) (get_or ps u (pos 0)) (get_or (quantities i ps) u (pos 0))
+    unfolding settled_sizes size
+    near_own {i} w e =
+        let own : get_or (sizes i ps) u 0 ≡ nat_abs (get_or ps u (pos 0)) = size_at i ps u ∙ rw e refl in
+        let near = accurate (sizes i ps) (total i) (shareable w _ e).some u (omega (arith, length-sizes i ps, inside i e)) in
+        rw (quantity_at i ps u, size-signed i _ _ e) (rw own at near)
+
+  pub own_right : {i : Imbalance} → View upper lower (sum_ℤ ps) i → Right i ps (quantities i ps)
+  own_right {i} w = record {
+    adds_up = sum-quantities w;
+    only_causers = λ u. only_own u w;
+    sign = λ u. sign_own u i;
+    near = λ u. near_own u w;
+  }
 
   pub settles : Accurate upper lower (imbalance upper lower ps) ps (quantities (imbalance upper lower ps) ps) (after (imbalance upper lower ps) ps)
-  unfolding imbalance
+  unfolding imbalance after
   settles =
       let w = view upper lower (sum_ℤ ps) in
-      let m = market_after upper lower ps top bottom w in
       record {
-        not_above = le_of_test m.not_above;
-        not_below = le_of_test m.not_below;
-        adds_up = m.adds;
-        by_rules = quantity_at _ ps;
-        each = user_any w;
+        kept = kept w (sym (length-quantities _ ps)) (own_right w);
+        adds_up = sizes-quantities w;
+        by_rules = λ u h. quantity_at _ ps u;
       }

@@ -1,4 +1,4 @@
--- What each call answers, and what every lent area holds afterwards, refused or accepted. Assumes nothing.
+-- What each call answers, and what every lent area holds afterwards, refused or accepted. (What the judge answers is in specs/Judging.antt.) Assumes nothing.
 use Rattle.std.specs.Prelude.{List, Result, Ok, Err, ℕ, ℤ, pos, length, replicate}
 use Rattle.rules.specs.declared.Cause.{Cause}
 use Rattle.rules.specs.declared.Day.{Day}
@@ -13,7 +13,7 @@ use Rattle.rules.specs.Hours.{Hour, Closing, before, standing}
 use Rattle.rules.specs.Market.{Imbalance, imbalance, quantities, after, moneys, outcome, sold, bought}
 use Rattle.rules.specs.Causes.{open_cause, thresholds_cause, hour_cause, preview_cause, closing_cause}
 
--- A refusal of an hour, a preview or a closing returns its cause and the record as it was given.
+-- A refusal of an hour, a preview, the judge or a closing returns its cause and the record as it was given.
 abbrev pub with_day : Day → Result Unit Cause → Result Unit Refusal
 with_day d (Ok u) = Ok u
 with_day d (Err k) = Err (record { cause = k; day = d })
@@ -104,7 +104,7 @@ module _ (d : Day) (t : List ℤ) (g : Closing) where
       (moneys g.terms.excess_price g.terms.shortfall_price (standing d t g))
       g.money
 
--- ---- document 01's number of an answer, 0 for no cause, and the record that it returns
+-- ---- the papers' number of an answer, 0 for no cause, and the record that it returns
 abbrev pub number_by : {A E : Type 0} → (E → ℕ) → Result A E → ℕ
 number_by of (Ok r) = 0
 number_by of (Err e) = of e

@@ -32,11 +32,16 @@ list_long d xs = eqb (length xs) (users d)
 unfoldable pub scratch_long : Day → List ℕ → Bool
 scratch_long d s = eqb (length s) (users d)
 
+-- the lists of the four amounts
+unfoldable pub amounts_long : Day → Hour → Bool
+amounts_long d g = list_long d g.entry && (list_long d g.exit && (list_long d g.title && list_long d g.pooling))
+
 unfoldable pub hour_long : Day → List ℤ → Hour → Bool
-hour_long d t g =
-    table_long t
-    && (list_long d g.entry && (list_long d g.exit && (list_long d g.title && (list_long d g.pooling
-    && (list_long d g.quantity && (list_long d g.money && scratch_long d g.scratch))))))
+hour_long d t g = table_long t && (amounts_long d g && (list_long d g.quantity && (list_long d g.money && scratch_long d g.scratch)))
+
+-- document 02, of the judge: "3 also for that list; no money list or scratch is lent"
+unfoldable pub judge_long : Day → List ℤ → Hour → List ℤ → Bool
+judge_long d t g qs = table_long t && (amounts_long d g && list_long d qs)
 
 unfoldable pub closing_long : Day → List ℤ → Closing → Bool
 closing_long d t g = table_long t && (list_long d g.quantity && list_long d g.money)
@@ -101,12 +106,10 @@ open_cause n len t =
 unfoldable pub thresholds_cause : ℤ → ℤ → Result Unit Cause
 thresholds_cause month zone = unless (zone_fit zone) cause.Zone then unless (month_fit month) cause.Terms
 
--- "an hour 2 to 11"
-unfoldable pub hour_cause : Day → List ℤ → Hour → Result Unit Cause
-hour_cause d t g =
-    unless (day_fit d) cause.Record
-    then unless (hour_long d t g) cause.Lengths
-    then unless (zone_fit g.terms.zone) cause.Zone
+-- of what an hour is told, 4 to 11
+unfoldable pub inputs_cause : Day → List ℤ → Hour → Result Unit Cause
+inputs_cause d t g =
+    unless (zone_fit g.terms.zone) cause.Zone
     then unless (zone_open g.terms.zone d) cause.Closed
     then unless (hour_next d g.terms) cause.Hour
     then unless (table_fit d t) cause.Table
@@ -115,6 +118,13 @@ hour_cause d t g =
     then unless (pooling_adds g) cause.Pooling
     then unless (before_fit d t g) cause.Positions
 
+-- "an hour 2 to 11"
+unfoldable pub hour_cause : Day → List ℤ → Hour → Result Unit Cause
+hour_cause d t g =
+    unless (day_fit d) cause.Record
+    then unless (hour_long d t g) cause.Lengths
+    then inputs_cause d t g
+
 -- a preview of an hour, with a list lent for the positions after; document 02: "The same causes apply in the same order, and cause 3 covers the new list." (2 stands before, since the
 -- record says how many users there are.)
 unfoldable pub preview_cause : Day → List ℤ → Hour → List ℤ → Result Unit Cause
@@ -122,6 +132,13 @@ preview_cause d t g lent =
     unless (day_fit d) cause.Record
     then unless (list_long d lent) cause.Lengths
     then hour_cause d t g
+
+-- the judge of an operator's quantities: "Causes 2 to 11 come first, 3 also for that list" (22 to 24, which come then, are in specs/Judging.antt)
+unfoldable pub judge_inputs_cause : Day → List ℤ → Hour → List ℤ → Result Unit Cause
+judge_inputs_cause d t g qs =
+    unless (day_fit d) cause.Record
+    then unless (judge_long d t g qs) cause.Lengths
+    then inputs_cause d t g
 
 -- "closing 2 to 8"
 unfoldable pub closing_cause : Day → List ℤ → Closing → Result Unit Cause

@@ -15,12 +15,15 @@ use Rattle.rules.specs.Market.{imbalance_of, imbalance, total, caused, size, siz
 use Rattle.rules.specs.Market.{quantities, after, money_of, moneys, causers, word, marks, outcome}
 use Rattle.rules.specs.Market.{sold, bought}
 use Rattle.rules.specs.Refusals.{by_cause}
-use Rattle.rules.specs.Causes.{zone_day_fit, day_fit, table_long, list_long, scratch_long, hour_long, closing_long, zone_open}
-use Rattle.rules.specs.Causes.{hour_next, all_done, positions_fit, beyond_zero, idle_zero, table_fit, prices_fit, terms_fit}
-use Rattle.rules.specs.Causes.{amounts_fit, pooling_adds, before_fit, open_cause, thresholds_cause, hour_cause, preview_cause, closing_cause}
+use Rattle.rules.specs.Causes.{zone_day_fit, day_fit, table_long, list_long, scratch_long, amounts_long, hour_long, judge_long}
+use Rattle.rules.specs.Causes.{closing_long, zone_open, hour_next, all_done, positions_fit, beyond_zero, idle_zero, table_fit}
+use Rattle.rules.specs.Causes.{prices_fit, terms_fit, amounts_fit, pooling_adds, before_fit, open_cause, thresholds_cause, inputs_cause}
+use Rattle.rules.specs.Causes.{hour_cause, preview_cause, judge_inputs_cause, closing_cause}
 use Rattle.rules.specs.Answers.{open_answer, open_table, thresholds_answer, hour_imbalance, hour_answer, hour_table, hour_quantity, hour_money}
 use Rattle.rules.specs.Answers.{hour_scratch, preview_answer, preview_quantity, preview_money, preview_after, preview_scratch, closing_answer, closing_table}
 use Rattle.rules.specs.Answers.{closing_quantity, closing_money, open_number, thresholds_number, hour_number, hour_day, closing_number, closing_day}
+use Rattle.rules.specs.Judging.{each_user, sign_right, near, share_right, sum_right, quantities_cause, judge_cause, judge_answer}
+use Rattle.rules.specs.Judging.{judge_number}
 use Rattle.rules.specs.History.{opened, step, run, hour_accepted, closing_accepted, adds_first, adds_second, first_sum}
 use Rattle.rules.specs.History.{second_sum, closes_now, closes}
 use Rattle.rules.specs.Guarantees.{marked}
@@ -41,12 +44,15 @@ unfolding
     quantities after money_of moneys causers word marks outcome
     sold bought
     by_cause
-    zone_day_fit day_fit table_long list_long scratch_long hour_long closing_long zone_open
-    hour_next all_done positions_fit beyond_zero idle_zero table_fit prices_fit terms_fit
-    amounts_fit pooling_adds before_fit open_cause thresholds_cause hour_cause preview_cause closing_cause
+    zone_day_fit day_fit table_long list_long scratch_long amounts_long hour_long judge_long
+    closing_long zone_open hour_next all_done positions_fit beyond_zero idle_zero table_fit
+    prices_fit terms_fit amounts_fit pooling_adds before_fit open_cause thresholds_cause inputs_cause
+    hour_cause preview_cause judge_inputs_cause closing_cause
     open_answer open_table thresholds_answer hour_imbalance hour_answer hour_table hour_quantity hour_money
     hour_scratch preview_answer preview_quantity preview_money preview_after preview_scratch closing_answer closing_table
     closing_quantity closing_money open_number thresholds_number hour_number hour_day closing_number closing_day
+    each_user sign_right near share_right sum_right quantities_cause judge_cause judge_answer
+    judge_number
     opened step run hour_accepted closing_accepted adds_first adds_second first_sum
     second_sum closes_now closes
     marked

@@ -1,6 +1,7 @@
--- What is proved of the definitions, for every input: the opening, demands 2 and 3, rules 2 and 3, and a preview. Statements only; the proofs are in proofs/Guarantees.antt, and the crate
+-- What is proved of the definitions, for every input: the opening, demands 2 and 3, rules 2 and 3, a preview, and the judge. Statements only; the proofs are in proofs/Guarantees.antt, and the crate
 -- `certificate` asks for each. Assumes nothing.
 use Rattle.std.specs.Prelude.{◌≡◌, Bool, true, false, cond, List, Result, Ok, Err, map, ◌↔◌, ◌⊎◌, ℕ, ◌+◌, ◌-◌, ◌*◌, ◌/◌, ◌%◌, ◌^◌, ◌<◌, eqb, ltb, ℤ, pos, nat_abs, ◌+ℤ◌, ◌-ℤ◌, length, get_or, take, replicate, ◌≤ℤ◌, ◌<ℤ◌}
+use mathlib.Core.List.{zip_with}
 use Rattle.integers.specs.Ranges.{natural}
 use Rattle.integers.specs.Lists.{sum, sum_ℤ, count}
 use Rattle.rules.specs.declared.Cause.TheVariants as cause
@@ -14,11 +15,12 @@ use Rattle.rules.specs.declared.Outcome.{Outcome}
 use Rattle.rules.specs.declared.Outcome.TheVariants.{Within, Settled}
 use Rattle.rules.specs.Limits.{zone_fit, position_fit}
 use Rattle.rules.specs.Days.{users, hours_of_day, hours_done, is_closed, part, place}
-use Rattle.rules.specs.Hours.{Hour, Closing, before}
+use Rattle.rules.specs.Hours.{Hour, Closing, inputs_of, before}
 use Rattle.rules.specs.Refusals.{by_cause}
-use Rattle.rules.specs.Causes.{day_fit, list_long, hour_long, closing_long, zone_open, hour_next, all_done, table_fit, prices_fit, terms_fit, amounts_fit, pooling_adds, before_fit, hour_cause}
+use Rattle.rules.specs.Causes.{day_fit, list_long, hour_long, judge_long, closing_long, zone_open, hour_next, all_done, table_fit, prices_fit, terms_fit, amounts_fit, pooling_adds, before_fit, hour_cause}
 use Rattle.rules.specs.Market.{Imbalance, total, caused, sizes, settled_sizes, signed}
 use Rattle.rules.specs.Answers.{open_answer, open_table, hour_answer, hour_number, hour_table, hour_quantity, hour_money, hour_scratch, hour_imbalance, preview_answer, preview_quantity, preview_money, preview_after, preview_scratch, closing_answer, closing_number}
+use Rattle.rules.specs.Judging.{judge_answer, judge_number}
 use Rattle.rules.specs.History.{State, Call, opened, run, first_sum, second_sum, closes}
 
 -- ---- the opening: "The Gas Day shall be shown to begin at zero, not supposed to."
@@ -38,10 +40,8 @@ LengthKept =
 
 -- ---- demand 2: "an hour or closing is accepted if and only if no listed cause exists"
 
--- no cause of an hour exists: each test of the causes 2 to 11 holds
-pub record HourFit (d : Day) (t : List ℤ) (g : Hour) : Type 0 where
-  pub day : day_fit d ≡ true
-  pub lengths : hour_long d t g ≡ true
+-- each test of the causes 4 to 11 holds, which an hour and the judge have in common
+pub record InputsFit (d : Day) (t : List ℤ) (g : Hour) : Type 0 where
   pub zone : zone_fit g.terms.zone ≡ true
   pub open' : zone_open g.terms.zone d ≡ true
   pub next : hour_next d g.terms ≡ true
@@ -50,6 +50,12 @@ pub record HourFit (d : Day) (t : List ℤ) (g : Hour) : Type 0 where
   pub amounts : amounts_fit g ≡ true
   pub pooling : pooling_adds g ≡ true
   pub positions : before_fit d t g ≡ true
+
+-- no cause of an hour exists: each test of the causes 2 to 11 holds
+pub record HourFit (d : Day) (t : List ℤ) (g : Hour) : Type 0 where
+  pub day : day_fit d ≡ true
+  pub lengths : hour_long d t g ≡ true
+  pub inputs : InputsFit d t g
 
 -- no cause of a closing exists: each test of the causes 2 to 8 holds
 pub record ClosingFit (d : Day) (t : List ℤ) (g : Closing) : Type 0 where
@@ -94,13 +100,17 @@ ClosedIsMarked =
 -- ---- "Whatever record and table an hour is given, once it is accepted the market after it is neither above the upper nor below the lower of that hour's thresholds, a user who did
 -- not cause has quantity 0, and each who did is settled by rules 4 and 5 of document 01, with a settled size less than 1 kWh from the exact share."
 
--- Of one user, whose position was p, whose quantity is q and whose position after is r, in an imbalance i; S is the sum of all causers' sizes.
+-- "that size times the sum differs from the product by less than the sum": of a position p and a quantity q, in an imbalance i; S is the sum of all causers' sizes
+abbrev pub Near : Imbalance → ℕ → ℤ → ℤ → Type 0
+Near i S p q = (nat_abs q * S < total i * nat_abs p + S) × (total i * nat_abs p < nat_abs q * S + S)
+
+-- Of one user, whose position was p, whose quantity is q and whose position after is r.
 pub record UserAccurate (i : Imbalance) (S : ℕ) (p q r : ℤ) : Type 0 where
   pub uncaused : caused i p ≡ false → q ≡ pos 0
   -- a sale in an excess, a purchase in a shortfall
   pub sign : q ≡ signed i (nat_abs q)
-  -- "that size times the sum differs from the product by less than the sum"
-  pub near : caused i p ≡ true → (nat_abs q * S < total i * nat_abs p + S) × (total i * nat_abs p < nat_abs q * S + S)
+  -- "a settled size less than 1 kWh from the exact share"
+  pub near : caused i p ≡ true → Near i S p q
   pub rest : r ≡ p -ℤ q
   -- "It may reach zero and never crosses it."
   pub not_below_zero : pos 0 ≤ℤ p → pos 0 ≤ℤ r
@@ -108,16 +118,20 @@ pub record UserAccurate (i : Imbalance) (S : ℕ) (p q r : ℤ) : Type 0 where
   -- "A position, before or after settlement"
   pub in_range : position_fit r ≡ true
 
--- Of an hour with the positions ps before, the quantities qs and the positions rs after.
-pub record Accurate (upper lower : ℤ) (i : Imbalance) (ps qs rs : List ℤ) : Type 0 where
+-- Of an hour with the positions ps before, the quantities qs and the positions rs after, whoever rounded.
+pub record Kept (upper lower : ℤ) (i : Imbalance) (ps qs rs : List ℤ) : Type 0 where
   -- "The market after it is the sum of the positions after"
   pub not_above : sum_ℤ rs ≤ℤ upper
   pub not_below : lower ≤ℤ sum_ℤ rs
+  pub each : (user : ℕ) → UserAccurate i (sum (sizes i ps)) (get_or ps user (pos 0)) (get_or qs user (pos 0)) (get_or rs user (pos 0))
+
+-- The same, rounded by rule 4.
+pub record Accurate (upper lower : ℤ) (i : Imbalance) (ps qs rs : List ℤ) : Type 0 where
+  pub kept : Kept upper lower i ps qs rs
   -- the settled sizes add to the total
   pub adds_up : sum (map nat_abs qs) ≡ total i
   -- by rules 4 and 5
   pub by_rules : (user : ℕ) → user < length ps → get_or qs user (pos 0) ≡ signed i (get_or (settled_sizes i ps) user 0)
-  pub each : (user : ℕ) → UserAccurate i (sum (sizes i ps)) (get_or ps user (pos 0)) (get_or qs user (pos 0)) (get_or rs user (pos 0))
 
 -- of any accepted hour, "in a list or alone"
 abbrev pub Accuracy : Type 0
@@ -183,3 +197,40 @@ abbrev pub AsSettlingACopy : Type 0
 AsSettlingACopy =
     (d : Day) (t : List ℤ) (g : Hour) (lent : List ℤ)
     → (list_long d lent ≡ true → AsACopy d t g lent) × (list_long d lent ≡ false → TurnedAway d t g lent)
+
+-- ---- the judge; document 02: "accept exactly when the quantities add to the excess (or to minus the shortfall, or to zero if there is neither), only causers have any, with the right sign,
+-- and each is less than 1 kWh from the exact share"
+
+-- none of the causes 2 to 11 exists, "3 also for that list"
+pub record JudgeFit (d : Day) (t : List ℤ) (g : Hour) (qs : List ℤ) : Type 0 where
+  pub day : day_fit d ≡ true
+  pub lengths : judge_long d t g qs ≡ true
+  pub inputs : InputsFit d t g
+
+-- Of an imbalance i of users with the positions ps, and their quantities qs.
+pub record Right (i : Imbalance) (ps qs : List ℤ) : Type 0 where
+  -- "the quantities add to the excess (or to minus the shortfall, or to zero if there is neither)"
+  pub adds_up : sum_ℤ qs ≡ signed i (total i)
+  -- "only causers have any"
+  pub only_causers : (user : ℕ) → caused i (get_or ps user (pos 0)) ≡ false → get_or qs user (pos 0) ≡ pos 0
+  -- "with the right sign"
+  pub sign : (user : ℕ) → get_or qs user (pos 0) ≡ signed i (nat_abs (get_or qs user (pos 0)))
+  -- "and each is less than 1 kWh from the exact share"
+  pub near : (user : ℕ) → caused i (get_or ps user (pos 0)) ≡ true → Near i (sum (sizes i ps)) (get_or ps user (pos 0)) (get_or qs user (pos 0))
+
+abbrev pub AcceptedIfRight : Type 0
+AcceptedIfRight =
+    (d : Day) (t : List ℤ) (g : Hour) (qs : List ℤ)
+    → (judge_number (judge_answer d t g qs) ≡ 0) ↔ (JudgeFit d t g qs × Right (hour_imbalance d t g) (before d t g) qs)
+
+-- "Our own quantities are accepted": of every accepted hour
+abbrev pub OwnAccepted : Type 0
+OwnAccepted =
+    (d : Day) (t : List ℤ) (g : Hour) → hour_number (hour_answer d t g) ≡ 0 → judge_number (judge_answer d t (inputs_of g) (hour_quantity d t g)) ≡ 0
+
+-- "an accepted list keeps the market within its thresholds and lets no position cross zero": all that an hour of ours keeps (`Kept`); document 01: "The position after is the position before
+-- minus the quantity."
+abbrev pub AcceptedKeeps : Type 0
+AcceptedKeeps =
+    (d : Day) (t : List ℤ) (g : Hour) (qs : List ℤ) → judge_number (judge_answer d t g qs) ≡ 0
+    → Kept g.terms.upper g.terms.lower (hour_imbalance d t g) (before d t g) qs (zip_with ◌-ℤ◌ (before d t g) qs)

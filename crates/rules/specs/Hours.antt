@@ -1,5 +1,5 @@
 -- What an hour and a closing are given besides the record and the table, fit or unfit; and rule 1. Assumes nothing.
-use Rattle.std.specs.Prelude.{◌≡◌, List, ℕ, ℤ, pos, ◌+ℤ◌, get_or, take}
+use Rattle.std.specs.Prelude.{◌≡◌, List, [], ℕ, ℤ, pos, ◌+ℤ◌, get_or, take}
 use Rattle.integers.specs.Lists.{tabulate}
 use Rattle.rules.specs.declared.Amounts.{Amounts}
 use Rattle.rules.specs.declared.Outputs.{Outputs}
@@ -8,7 +8,7 @@ use Rattle.rules.specs.declared.HourTerms.{HourTerms}
 use Rattle.rules.specs.declared.ClosingTerms.{ClosingTerms}
 use Rattle.rules.specs.Days.{users, part, place}
 
--- an hour, to be settled or previewed: its terms, the four amounts of each user, and the lists and the scratch as they are lent
+-- an hour, to be settled, previewed or judged: its terms, the four amounts of each user, and the lists and the scratch as they are lent
 pub record Hour : Type 0 where
   pub terms : HourTerms
   pub entry : List ℤ
@@ -32,6 +32,17 @@ hour_listed terms entry exit title pooling quantity money scratch =
 
 abbrev pub hour_given : HourTerms → Amounts → Outputs → List ℕ → Hour
 hour_given terms a o scratch = hour_listed terms a.entries.now a.exits.now a.titles.now a.poolings.now o.quantity.now o.money.now scratch
+
+-- of an hour that is only read, to be judged: nothing is lent to be filled
+abbrev pub inputs_listed : HourTerms → List ℤ → List ℤ → List ℤ → List ℤ → Hour
+inputs_listed terms entry exit title pooling = hour_listed terms entry exit title pooling [] [] []
+
+-- what the judge is given of an hour
+abbrev pub inputs_of : Hour → Hour
+inputs_of g = inputs_listed g.terms g.entry g.exit g.title g.pooling
+
+abbrev pub inputs_given : HourTerms → Amounts → Hour
+inputs_given terms a = inputs_listed terms a.entries.now a.exits.now a.titles.now a.poolings.now
 
 abbrev pub closing_listed : ClosingTerms → List ℤ → List ℤ → Closing
 closing_listed terms quantity money = record { terms = terms; quantity = quantity; money = money }

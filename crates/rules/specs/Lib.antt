@@ -1,4 +1,5 @@
--- Document 01 on opening, default thresholds, hours, closings and their causes, in the paper's order; then the history of a day, what is proved of it, and the cases.
+-- Documents 01 and 02 on opening, default thresholds, hours, previews, closings and their causes, in document 01's order; then the judge, the history of a day, what is proved of them, and
+-- `Compute`, by which the cases compute.
 pub mod Limits
 pub mod Days
 pub mod Thresholds
@@ -8,6 +9,7 @@ pub mod Refusals
 pub mod Causes
 pub mod Answers
 pub mod Promises
+pub mod Judging
 pub mod History
 pub mod Guarantees
 pub mod Compute

@@ -1,9 +1,9 @@
 -- "Checked in the order of their numbers; the first that applies is given." Assumes nothing.
 use Rattle.std.specs.Prelude.{Bool, true, false, ℕ, Result, Ok, Err}
 use Rattle.rules.specs.declared.Cause.{Cause}
-use Rattle.rules.specs.declared.Cause.TheVariants.{Users, Record, Lengths, Zone, Closed, Hour, Table, Terms, Amounts, Pooling, Positions, DayLength}
+use Rattle.rules.specs.declared.Cause.TheVariants.{Users, Record, Lengths, Zone, Closed, Hour, Table, Terms, Amounts, Pooling, Positions, DayLength, Signs, Shares, Sum}
 
--- "Causes for turning a call away", by number; document 02: "21 at opening, .. if the length is none of these"
+-- "Causes for turning a call away", by number; document 02: "21 at opening, .. if the length is none of these", and of an operator's quantities "22 .. then 23 .. then 24"
 abbrev pub number : Cause → ℕ
 number Users = 1
 number Record = 2
@@ -17,6 +17,9 @@ number Amounts = 9
 number Pooling = 10
 number Positions = 11
 number DayLength = 21
+number Signs = 22
+number Shares = 23
+number Sum = 24
 
 -- A test of a call answers a Result: `Ok tt` where no cause applies, or the cause.
 infixr 20 ◌then◌

@@ -32,6 +32,12 @@ pub enum Cause {
     Positions = 11,
     // "at opening .. if the length is none of these"
     DayLength = 21,
+    // of an operator's quantities: "if a user who did not cause has a quantity or a causer's has the wrong sign"
+    Signs = 22,
+    // "then 23 if one is 1 kWh or more off"
+    Shares = 23,
+    // "then 24 if the sum is wrong"
+    Sum = 24,
 }
 
 impl Cause {

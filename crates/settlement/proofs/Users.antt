@@ -1,15 +1,14 @@
 -- What the users' settlement has to show between its calls: the market is in an excess, in a shortfall or within its thresholds. Assumes nothing.
 use mathlib.Core.Path.{◌≡◌, refl, sym, ap, ap₂, ◌∙◌, subst}
-use mathlib.Core.Bool.{Bool, true, false, cond}
+use mathlib.Core.Bool.{Bool, true, false}
 use mathlib.Core.List.{List, [], ◌∷◌, map, zip_with}
 use Prim.Native.Nat.{ℕ, zero, suc, ◌*◌, ◌≤◌}
 use native.Mathlib.Omega.{arith}
-use native.Mathlib.Nat.{le_refl}
 use lib.IntN.{ℤ, pos, nat_abs, zero-*ℤ, +ℤ_idr, ◌-ℤ◌}
-use lib.ListN.{length, get_or, replicate, length-map}
+use lib.ListN.{length, replicate, length-map}
 use Rattle.integers.specs.Lists.{sum_ℤ, AtMost}
 use Rattle.integers.proofs.Sizes.{size-sub}
-use Rattle.integers.proofs.Sums.{sum_bound, at_most_tail}
+use Rattle.integers.proofs.Sums.{sum_bound}
 use Rattle.rules.specs.Limits.{users_most, position_most, market_most}
 use Rattle.rules.specs.Hours.{Same}
 use Rattle.rules.specs.declared.Amounts.{Amounts}
@@ -18,8 +17,8 @@ use Rattle.rules.specs.declared.Marks.{Marks}
 use Rattle.rules.specs.declared.Outputs.{Outputs}
 use Rattle.rules.specs.declared.Outcome.{Outcome}
 use Rattle.rules.specs.declared.Outcome.TheVariants.{Within}
-use Rattle.rules.specs.Market.{Imbalance, within, imbalance, caused, size, sizes, settled_sizes, signed, quantities, after, money_of, moneys, outcome}
-use Rattle.rules.proofs.Settling.{View, is_excess, is_shortfall, view, length-sizes, length-quantities, Shareable, share_excess, share_shortfall}
+use Rattle.rules.specs.Market.{within, imbalance, settled_sizes, signed, quantities, after, money_of, moneys, outcome}
+use Rattle.rules.proofs.Settling.{View, is_excess, is_shortfall, view, length-sizes, sizes_small, length-quantities, Shareable, share_excess, share_shortfall}
 use Rattle.positions.specs.Before.{befores}
 use Rattle.positions.proofs.Before.{length-befores}
 use Rattle.rules.proofs.Accepted.{thresholds_sound}
@@ -49,21 +48,6 @@ no_change : (ps : List ℤ) → zip_with ◌-ℤ◌ ps (replicate (length ps) (p
 unfolding zip_with
 no_change [] = refl
 no_change (p ∷ ps) = ap₂ (λ (x : ℤ) (l : List ℤ). x ∷ l) (+ℤ_idr p) (no_change ps)
-
--- ---- what the apportionment asks
-size-le : (i : Imbalance) (p : ℤ) → size i p ≤ nat_abs p
-unfolding size
-size-le i p = go (caused i p)
-  where
-    go : (b : Bool) → cond b (nat_abs p) 0 ≤ nat_abs p
-    go true = le_refl (nat_abs p)
-    go false = omega arith
-
-sizes_small : (i : Imbalance) (ps : List ℤ) → AtMost position_most ps → (j : ℕ) → get_or (sizes i ps) j 0 ≤ position_most
-unfolding sizes
-sizes_small i [] s j = omega arith
-sizes_small i (p ∷ ps) s zero = omega (arith, size-le i p, s.at 0)
-sizes_small i (p ∷ ps) s (suc j) = sizes_small i ps (at_most_tail s) j
 
 -- ---- by the positions before, z
 module _ {p : List ℤ} {a : Amounts} {k : HourTerms} {o : Outputs} {s : List ℕ} (g : Asks p a k o s) (z : List ℤ) (ez : z ≡ befores p a) where

@@ -7,7 +7,8 @@ pub const OPENING_USERS: u64 = 1;
 /// zones", and "cause 2 also covers a record with another length".
 pub const RECORD: u64 = 2;
 /// Table not of 256 places, or a list or the scratch not of exactly the user count. Ask 5,
-/// of a preview's positions after: "cause 3 covers the new list".
+/// of a preview's positions after: "cause 3 covers the new list". Ask 6, of the operator's
+/// quantity list: "3 also for that list".
 pub const LENGTH: u64 = 3;
 /// Zone not 0 or 1.
 pub const ZONE: u64 = 4;
@@ -49,3 +50,9 @@ pub const WRITER_NUMBER: u64 = 19;
 pub const WRITER_ROOM: u64 = 20;
 /// At opening, after 1 and before 3: the length is none of these, "23, 24 or 25".
 pub const OPENING_LENGTH: u64 = 21;
+/// "a user who did not cause has a quantity or a causer's has the wrong sign".
+pub const JUDGED_SIGN: u64 = 22;
+/// "one is 1 kWh or more off", which is looked at after 22.
+pub const JUDGED_SHARE: u64 = 23;
+/// "the sum is wrong", which is looked at last.
+pub const JUDGED_SUM: u64 = 24;

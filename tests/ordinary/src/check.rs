@@ -1,4 +1,4 @@
-//! The checks that hours, previews and closings share, one function per cause.
+//! The checks that hours, previews, judged hours and closings share, one function per cause.
 
 use std::ops::RangeInclusive;
 

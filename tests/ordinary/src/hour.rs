@@ -46,11 +46,11 @@ pub enum Outcome {
 }
 
 /// The four amounts lists of an hour.
-struct Amounts<'a> {
-    entry: &'a [i64],
-    exit: &'a [i64],
-    title: &'a [i64],
-    pooling: &'a [i64],
+pub(crate) struct Amounts<'a> {
+    pub(crate) entry: &'a [i64],
+    pub(crate) exit: &'a [i64],
+    pub(crate) title: &'a [i64],
+    pub(crate) pooling: &'a [i64],
 }
 
 /// Settles an hour of a zone by rules 1 to 6. Causes 2 to 11.
@@ -115,13 +115,13 @@ pub fn settle_hour(
 
 /// Cause 6: "hour is not hours done plus 1, or above 24". Ask 3: "Causes 2 and 6 read
 /// that length in the place of 24, for both zones."
-fn check_hour(day: &Day, zone: usize, hour: i64) -> Result<(), u64> {
+pub(crate) fn check_hour(day: &Day, zone: usize, hour: i64) -> Result<(), u64> {
     let fits = hour == day.hours[zone] + 1 && hour <= day.length;
     check::require(fits, cause::HOUR)
 }
 
 /// Cause 8: "threshold or price out of range".
-fn check_terms(terms: &Terms) -> Result<(), u64> {
+pub(crate) fn check_terms(terms: &Terms) -> Result<(), u64> {
     let fits = limits::UPPER.contains(&terms.upper)
         && limits::LOWER.contains(&terms.lower)
         && check::all_in(&[terms.excess_price, terms.shortfall_price], &limits::PRICE);
@@ -129,7 +129,7 @@ fn check_terms(terms: &Terms) -> Result<(), u64> {
 }
 
 /// Cause 9: "an amount out of range".
-fn check_amounts(amounts: &Amounts) -> Result<(), u64> {
+pub(crate) fn check_amounts(amounts: &Amounts) -> Result<(), u64> {
     let fits = check::all_in(amounts.entry, &limits::ENTRY)
         && check::all_in(amounts.exit, &limits::EXIT)
         && check::all_in(amounts.title, &limits::TITLE)
@@ -138,13 +138,13 @@ fn check_amounts(amounts: &Amounts) -> Result<(), u64> {
 }
 
 /// Cause 10: "The pooling amounts of all users add to zero."
-fn check_pooling(pooling: &[i64]) -> Result<(), u64> {
+pub(crate) fn check_pooling(pooling: &[i64]) -> Result<(), u64> {
     check::require(pooling.iter().sum::<i64>() == 0, cause::POOLING)
 }
 
 /// Rule 1: "A user's position before settlement is the position in the table plus
 /// entry, exit, title and pooling amounts. Exits are already negative."
-fn positions_before(places: &[i64], amounts: &Amounts, before: &mut [i64]) {
+pub(crate) fn positions_before(places: &[i64], amounts: &Amounts, before: &mut [i64]) {
     let entries_exits = amounts.entry.iter().zip(amounts.exit);
     let transfers = amounts.title.iter().zip(amounts.pooling);
     for (((before, place), (entry, exit)), (title, pooling)) in before
@@ -160,7 +160,7 @@ fn positions_before(places: &[i64], amounts: &Amounts, before: &mut [i64]) {
 /// Rule 2: "The market position is the sum over all users. Above the upper threshold
 /// there is an excess: the difference. Below the lower one there is a shortfall: the
 /// difference, taken positive. At a threshold there is neither."
-fn market_side(before: &[i64], terms: &Terms) -> Option<(Side, u64)> {
+pub(crate) fn market_side(before: &[i64], terms: &Terms) -> Option<(Side, u64)> {
     let market: i64 = before.iter().sum();
     if market > terms.upper {
         Some((Side::Excess, market.abs_diff(terms.upper)))
@@ -174,7 +174,7 @@ fn market_side(before: &[i64], terms: &Terms) -> Option<(Side, u64)> {
 impl Side {
     /// Rule 3: "In an excess the causing users are those with a position above zero;
     /// in a shortfall, those below zero." The size of a causer's position, else 0.
-    fn size(self, position: i64) -> u64 {
+    pub(crate) fn size(self, position: i64) -> u64 {
         match self {
             Side::Excess => position.max(0).unsigned_abs(),
             Side::Shortfall => position.min(0).unsigned_abs(),
@@ -183,7 +183,7 @@ impl Side {
 
     /// Rule 5: "The quantity is positive when the user sells (excess) and negative
     /// when the user buys (shortfall)."
-    fn sign(self) -> i64 {
+    pub(crate) fn sign(self) -> i64 {
         match self {
             Side::Excess => 1,
             Side::Shortfall => -1,

@@ -2,8 +2,9 @@
 //! tell that a call which was spoilt in two ways is refusable for both.
 //!
 //! A cause that speaks of the zone is taken to apply where the zone is not 0 or 1 if it
-//! applies to both; where lengths differ, a user lacks what is not there; and cause 6 reads
-//! the record's length as it is, also one that a day cannot have.
+//! applies to both; where lengths differ, a user lacks what is not there; cause 6 reads
+//! the record's length as it is, also one that a day cannot have; and causes 22 to 24 take a
+//! position or a threshold that is out of its range as the end of the range.
 
 use crate::limits;
 use crate::spoilt::Call;
@@ -11,29 +12,36 @@ use crate::spoilt_writing::Writing;
 
 /// Those of the hour's causes that apply.
 pub fn hour_causes(call: &Call) -> Vec<u64> {
-    causes_with(call, &[])
+    causes_with(call, &[call.quantity.len(), call.money.len(), call.scratch.len()])
 }
 
 /// Those of the preview's causes that apply: the hour's, of which 3 speaks of one list more.
 pub fn preview_causes(call: &Call) -> Vec<u64> {
-    causes_with(call, &[call.after.len()])
+    causes_with(call, &[call.quantity.len(), call.money.len(), call.scratch.len(), call.after.len()])
 }
 
-/// Those of the hour's causes that apply if it is lent more lists, of these lengths.
-fn causes_with(call: &Call, more: &[usize]) -> Vec<u64> {
+/// Those of the judged hour's causes that apply: the hour's, of which 3 speaks of the quantity
+/// list alone, and those of the quantities.
+pub fn judged_causes(call: &Call) -> Vec<u64> {
+    let mut causes = causes_with(call, &[call.quantity.len()]);
+    let applies = [sign_wrong, share_off, sum_wrong].map(|wrong| of_zone(call, |zone| wrong(&judged(call, zone))));
+    causes.extend(numbered_from(22, &applies));
+    causes
+}
+
+/// Those of the hour's causes that apply if it is lent, besides the amounts, lists of these
+/// lengths.
+fn causes_with(call: &Call, lent: &[usize]) -> Vec<u64> {
     let amounts = &call.amounts;
     let lists = [
         amounts.entry.len(),
         amounts.exit.len(),
         amounts.title.len(),
         amounts.pooling.len(),
-        call.quantity.len(),
-        call.money.len(),
-        call.scratch.len(),
     ];
     let applies = [
         record(call),
-        lengths(call, &lists) || lengths(call, more),
+        lengths(call, &lists) || lengths(call, lent),
         !zone_is_one(call),
         of_zone(call, |zone| call.day.is_closed(zone)),
         of_zone(call, |zone| {
@@ -142,12 +150,57 @@ fn amounts_out(call: &Call) -> bool {
 }
 
 fn position_out(call: &Call, zone: usize) -> bool {
+    let range = i128::from(*limits::POSITION.start())..=i128::from(*limits::POSITION.end());
+    (0..limits::PLACES).any(|user| !range.contains(&position(call, zone, user)))
+}
+
+/// A user's position before settlement.
+fn position(call: &Call, zone: usize, user: usize) -> i128 {
     let amounts = &call.amounts;
     let lists = [&amounts.entry, &amounts.exit, &amounts.title, &amounts.pooling];
-    let at = |list: &[i64], place: usize| i128::from(list.get(place).copied().unwrap_or(0));
-    let range = i128::from(*limits::POSITION.start())..=i128::from(*limits::POSITION.end());
-    (0..limits::PLACES).any(|user| {
-        let moved: i128 = lists.iter().map(|list| at(list, user)).sum();
-        !range.contains(&(at(&call.table, zone * limits::PLACES + user) + moved))
-    })
+    let moved: i128 = lists.iter().map(|list| at(list, user)).sum();
+    at(&call.table, zone * limits::PLACES + user) + moved
+}
+
+/// The number at a place, or 0 if there is none.
+fn at(list: &[i64], place: usize) -> i128 {
+    i128::from(list.get(place).copied().unwrap_or(0))
+}
+
+/// What a judge looks at: 1 in an excess, -1 in a shortfall, 0 within the thresholds; the excess
+/// or minus the shortfall; and for each user the position and the quantity.
+struct Judged {
+    sign: i128,
+    due: i128,
+    users: Vec<(i128, i128)>,
+}
+
+fn judged(call: &Call, zone: usize) -> Judged {
+    let in_range = |number: i128, range: std::ops::RangeInclusive<i64>| number.clamp(i128::from(*range.start()), i128::from(*range.end()));
+    let user = |user: usize| (in_range(position(call, zone, user), limits::POSITION), at(&call.quantity, user));
+    let users: Vec<(i128, i128)> = (0..limits::PLACES).map(user).collect();
+    let market: i128 = users.iter().map(|(position, _)| position).sum();
+    let terms = &call.amounts.terms;
+    let [above, below] = [(terms.upper, limits::UPPER), (terms.lower, limits::LOWER)].map(|(end, range)| market - in_range(end.into(), range));
+    let due = if above > 0 { above } else { below.min(0) };
+    Judged {
+        sign: due.signum(),
+        due,
+        users,
+    }
+}
+
+fn sign_wrong(judged: &Judged) -> bool {
+    judged.users.iter().any(|(position, quantity)| *quantity != 0 && (judged.sign * position <= 0 || judged.sign * quantity < 0))
+}
+
+/// Of a causer; of others this does not speak. What is due has its sign, as a quantity has.
+fn share_off(judged: &Judged) -> bool {
+    let size = |position: &i128| (judged.sign * position).max(0);
+    let sum: i128 = judged.users.iter().map(|(position, _)| size(position)).sum();
+    judged.users.iter().any(|(position, quantity)| size(position) > 0 && (quantity * sum - judged.due * size(position)).abs() >= sum)
+}
+
+fn sum_wrong(judged: &Judged) -> bool {
+    judged.users.iter().map(|(_, quantity)| quantity).sum::<i128>() != judged.due
 }

@@ -1,15 +1,17 @@
-//! Hours, previews and closings that are fit, and ways to spoil one, each by one part of one
-//! of the paper's causes.
+//! Hours, previews, judged hours and closings that are fit, and ways to spoil one, each by one
+//! part of one of the paper's causes.
 //!
 //! A way that finds no room in a call (a place beyond 128 users, say) leaves it as it was.
 
 use crate::made_up::{day, hour, odd_beyond, split, Hour, Kind, REACH};
 use crate::random::Random;
-use crate::{close_zone, limits, preview_hour, settle_hour, Day, Outcome};
+use crate::spoilt_quantities::{right_quantities, QUANTITIES};
+use crate::{close_zone, judge_hour, limits, preview_hour, settle_hour, Day, Outcome};
 
-/// What an hour, a preview or a closing is lent and given. A preview alone is lent a list for
-/// the positions after. A closing takes the zone and the two prices of what is given, and has
-/// no scratch.
+/// What an hour, a preview, a judged hour or a closing is lent and given. A preview alone is
+/// lent a list for the positions after. A judged hour's quantity list is the operator's, and it
+/// is lent nothing else but the table. A closing takes the zone and the two prices of what is
+/// given, and has no scratch.
 #[derive(Clone, PartialEq, Debug)]
 pub struct Call {
     /// The record.
@@ -91,6 +93,23 @@ impl Call {
         Ok(outcome)
     }
 
+    /// Judges its quantity list; the record that is answered if it is accepted is kept.
+    pub fn judge(&mut self) -> Result<(), u64> {
+        self.day = judge_hour(
+            self.day,
+            &self.table,
+            self.zone,
+            self.hour,
+            &self.amounts.entry,
+            &self.amounts.exit,
+            &self.amounts.title,
+            &self.amounts.pooling,
+            self.amounts.terms,
+            &self.quantity,
+        )?;
+        Ok(())
+    }
+
     /// The same as a closing: what was sold and bought.
     pub fn close(&mut self) -> Result<(i64, i64), u64> {
         let (day, sold, bought) = close_zone(
@@ -117,7 +136,7 @@ pub struct Way {
     pub spoil: fn(&mut Random, &mut Call),
 }
 
-const fn way(cause: u64, part: &'static str, spoil: fn(&mut Random, &mut Call)) -> Way {
+pub(crate) const fn way(cause: u64, part: &'static str, spoil: fn(&mut Random, &mut Call)) -> Way {
     Way { cause, part, spoil }
 }
 
@@ -164,7 +183,7 @@ const PRICES: [Way; 4] = [
     way(8, "shortfall price below", |r, call| call.amounts.terms.shortfall_price = odd_beyond(r, limits::PRICE, -1)),
 ];
 
-/// Of hours, and of previews as well.
+/// Of hours, and of previews and judged hours as well.
 const HOUR: [Way; 28] = [
     way(3, "entry list", |r, call| resize(r, &mut call.amounts.entry)),
     way(3, "exit list", |r, call| resize(r, &mut call.amounts.exit)),
@@ -213,6 +232,9 @@ const PREVIEW: [Way; 3] = [
     way(3, "positions after", |r, call| resize(r, &mut call.after)),
 ];
 
+/// What a judge is not lent: it does not matter to one how long they are.
+const NOT_JUDGED: [&str; 2] = ["money list", "scratch"];
+
 /// Of closings alone.
 const CLOSING: [Way; 2] = [
     way(6, "no hours done", |_, call| {
@@ -235,6 +257,14 @@ pub fn preview_ways() -> Vec<&'static Way> {
     by_cause(&[&SHARED, &OTHER_ZONE, &PRICES, &HOUR, &PREVIEW])
 }
 
+/// The ways to spoil a judged hour, by cause: those of an hour, but for what it is not lent, and
+/// those of the operator's quantities.
+pub fn judged_ways() -> Vec<&'static Way> {
+    let mut ways = by_cause(&[&SHARED, &OTHER_ZONE, &PRICES, &HOUR, &QUANTITIES]);
+    ways.retain(|way| !NOT_JUDGED.contains(&way.part));
+    ways
+}
+
 /// The ways to spoil a closing, by cause.
 pub fn closing_ways() -> Vec<&'static Way> {
     by_cause(&[&SHARED, &OTHER_ZONE, &PRICES, &CLOSING])
@@ -249,6 +279,13 @@ fn by_cause(lists: &[&'static [Way]]) -> Vec<&'static Way> {
 /// An hour of the zone that is accepted, and its preview too, in a day of any length.
 pub fn fit_hour(random: &mut Random, zone: i64) -> Call {
     fit(random, zone, |hours, length| hours < length)
+}
+
+/// The same with a quantity list that is accepted when it is judged.
+pub fn fit_judged(random: &mut Random, zone: i64) -> Call {
+    let mut call = fit_hour(random, zone);
+    call.quantity = right_quantities(random, &call);
+    call
 }
 
 /// A closing of the zone that is accepted, of a day of any length.
@@ -390,7 +427,7 @@ fn fill_idle(random: &mut Random, call: &mut Call, zone: i64, closed: bool) {
 }
 
 /// One of so many places: often the first or the last.
-fn some_place(random: &mut Random, count: usize) -> usize {
+pub(crate) fn some_place(random: &mut Random, count: usize) -> usize {
     let any = random.below(count);
     random.pick([0, count.saturating_sub(1), any, any])
 }

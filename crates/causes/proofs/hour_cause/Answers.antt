@@ -1,19 +1,15 @@
--- Causes 9 to 11, past the others. Assumes nothing.
+-- Causes 4 to 11, which an hour has in common with the judge. Assumes nothing.
 use mathlib.Core.Path.{◌∙◌}
-use Rattle.integers.proofs.Machine.{back}
-use Rattle.causes.proofs.Lengths.{hour_lent, hour_amounts}
+use Rattle.causes.proofs.Lengths.{listed_by_hour, hour_past_3}
 use borrow.Author.Rules.{rules}
 use Rattle.causes.proofs.hour_cause.Goals as goal
 
-pub zone_amounts_cause-requires : goal.zone_amounts_cause-requires
-zone_amounts_cause-requires c =
+pub inputs_cause-requires : goal.inputs_cause-requires
+inputs_cause-requires c =
     let a = c.args in
-    rw (back a.terms.zone (search rules))
-    (hour_lent a.day a.table.now a.amounts.now a.outputs.now a.scratch.now (search rules) (search rules) a.terms (search rules) (search rules))
+    listed_by_hour a.day a.table.now a.amounts.now a.terms a.outputs.now a.scratch.now (search rules) (search rules)
 
 pub returns : goal.returns
 returns c =
     let a = c.args in
-    (rw (back a.terms.zone (search rules)) at c.zone_amounts_cause.ensures)
-    ∙ hour_amounts a.day a.table.now a.amounts.now a.outputs.now a.scratch.now (search rules) (search rules) a.terms
-    (search rules) (search rules) (search rules) (search rules) (search rules)
+    c.inputs_cause.ensures ∙ hour_past_3 a.day a.table.now a.amounts.now a.terms a.outputs.now a.scratch.now (search rules) (search rules)

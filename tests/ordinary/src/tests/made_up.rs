@@ -100,6 +100,7 @@ fn every_kind_of_hour_is_what_it_says() {
         let mut shown = bench.clone();
         let previewed = shown.preview(0, 1, &hour).unwrap();
         check_hour(&start, &hour, &shown, &shown.after, previewed);
+        assert_eq!(bench.judge(0, 1, &hour, &shown.quantity), Ok(()));
         let outcome = bench.hour(0, 1, &hour).unwrap();
         check_hour(&start, &hour, &bench, &bench.table[..128], outcome);
         match (kind, outcome) {
@@ -177,7 +178,7 @@ fn conservation_over_lists_of_calls() {
 }
 
 /// Calls with odd numbers anywhere never panic, and a refusal changes nothing (which
-/// the bench checks).
+/// the bench checks). A judged hour is refused by what the hour is refused by.
 #[test]
 fn odd_calls() {
     let mut random = Random::new(3);
@@ -207,7 +208,11 @@ fn odd_calls() {
         }
         let prices = (hour.terms.excess_price, hour.terms.shortfall_price);
         let mut other = bench.clone();
-        if let Err(cause) = bench.hour(called, number, &hour) {
+        let quantity: Vec<i64> = (0..users).map(|_| odd_number(&mut random)).collect();
+        let judged = bench.judge(called, number, &hour, &quantity);
+        let answer = bench.hour(called, number, &hour);
+        assert_eq!(judged.err().filter(|&cause| cause < 22), answer.err());
+        if let Err(cause) = answer {
             causes[cause as usize] += 1;
         }
         if let Err(cause) = other.close(called, prices) {

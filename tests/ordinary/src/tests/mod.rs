@@ -3,6 +3,7 @@
 mod cases;
 mod causes;
 mod edges;
+mod judge;
 mod lengths;
 mod made_up;
 mod preview;
@@ -11,7 +12,7 @@ mod spoilt;
 mod writer;
 
 use crate::made_up::Hour;
-use crate::{close_zone, open, preview_hour, settle_hour, Day, Outcome, Side, Terms};
+use crate::{close_zone, judge_hour, open, preview_hour, settle_hour, Day, Outcome, Side, Terms};
 
 /// Thresholds and prices of zero: "a threshold or price not named is 0".
 const NONE: Terms = Terms {
@@ -127,6 +128,24 @@ impl Bench {
                 Ok(outcome)
             }
         }
+    }
+
+    /// Judges these quantities for an hour: an accepted call answers "the record [...]
+    /// unchanged".
+    fn judge(&self, zone: i64, hour: i64, given: &Hour, quantity: &[i64]) -> Result<(), u64> {
+        let answer = judge_hour(
+            self.day,
+            &self.table,
+            zone,
+            hour,
+            &given.entry,
+            &given.exit,
+            &given.title,
+            &given.pooling,
+            given.terms,
+            quantity,
+        );
+        answer.map(|day| assert_eq!(day, self.day))
     }
 
     /// An hour after its preview, which has the same answer.

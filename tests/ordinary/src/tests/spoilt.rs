@@ -1,10 +1,11 @@
 //! Fit calls and the ways to spoil them: each brings its cause in days of each length.
 
-use crate::present::{closing_causes, hour_causes, preview_causes};
+use crate::present::{closing_causes, hour_causes, judged_causes, preview_causes};
 use crate::random::Random;
-use crate::spoilt::{closing_ways, fit_closing, fit_hour, hour_ways, preview_ways, Call, Way};
+use crate::spoilt::{closing_ways, fit_closing, fit_hour, fit_judged, hour_ways, judged_ways, preview_ways, Call, Way};
+use crate::spoilt_quantities::spoil_two_users;
 
-/// Hours, previews, or closings.
+/// Hours, previews, judged hours, or closings.
 struct Calls {
     fit: fn(&mut Random, i64) -> Call,
     ways: Vec<&'static Way>,
@@ -13,7 +14,7 @@ struct Calls {
     causes: fn(&Call) -> Vec<u64>,
 }
 
-fn all() -> [Calls; 3] {
+fn all() -> [Calls; 4] {
     let hours = Calls {
         fit: fit_hour,
         ways: hour_ways(),
@@ -26,13 +27,19 @@ fn all() -> [Calls; 3] {
         call: |call| call.preview().err(),
         causes: preview_causes,
     };
+    let judged = Calls {
+        fit: fit_judged,
+        ways: judged_ways(),
+        call: |call| call.judge().err(),
+        causes: judged_causes,
+    };
     let closings = Calls {
         fit: fit_closing,
         ways: closing_ways(),
         call: |call| call.close().err(),
         causes: closing_causes,
     };
-    [hours, previews, closings]
+    [hours, previews, judged, closings]
 }
 
 /// Calls it; a refusal leaves all as it was, and the cause is the first that applies.
@@ -179,5 +186,79 @@ fn another_length_alone_is_amiss() {
             }
             assert!(alone.iter().all(|&count| count > 9), "{} {alone:?}", way.part);
         }
+    }
+}
+
+/// The place of the only quantity that differs.
+fn changed(before: &Call, after: &Call) -> Option<usize> {
+    let differs = |&g: &usize| before.quantity[g] != after.quantity[g];
+    let places: Vec<usize> = (0..before.quantity.len()).filter(differs).collect();
+    assert!(places.len() < 2);
+    places.first().copied()
+}
+
+/// A causer's size times the sum of all causers' sizes, and what is due times its own size.
+fn products(call: &Call, place: usize) -> (u128, u128, u128) {
+    let (start, a) = (call.zone as usize * 128, &call.amounts);
+    let position = |g: usize| call.table[start + g] + a.entry[g] + a.exit[g] + a.title[g] + a.pooling[g];
+    let market: i64 = (0..a.entry.len()).map(position).sum();
+    let due = market - market.clamp(a.terms.lower, a.terms.upper);
+    let size = |g: usize| (due.signum() * position(g)).max(0) as u128;
+    let sum = (0..a.entry.len()).map(size).sum::<u128>();
+    let quantity = u128::from(call.quantity[place].unsigned_abs());
+    (quantity * sum, due.unsigned_abs() as u128 * size(place), sum)
+}
+
+/// Two ways of 23 go where they say: just 1 kWh off; and less than 1 kWh off if products were
+/// taken in 64 bits, and far off as they are.
+#[test]
+fn ways_of_23_go_where_they_say() {
+    let mut random = Random::new(36);
+    let mut brought = [0; 2];
+    for way in judged_ways() {
+        let Some(which) = ["1 kWh off a whole share", "a product beyond 64 bits"].iter().position(|&part| part == way.part) else {
+            continue;
+        };
+        for round in 0..2_000 {
+            let call = fit_judged(&mut random, round % 2);
+            let mut spoilt = call.clone();
+            (way.spoil)(&mut random, &mut spoilt);
+            let Some(place) = changed(&call, &spoilt) else { continue };
+            let (judged, exact, sum) = products(&spoilt, place);
+            if which == 0 {
+                assert_eq!(judged.abs_diff(exact), sum);
+            } else {
+                assert!(judged > u128::from(u64::MAX));
+                assert!((judged as u64).abs_diff(exact as u64) < sum as u64);
+            }
+            brought[which] += 1;
+        }
+    }
+    assert!(brought.iter().all(|&count| count > 300), "{brought:?}");
+}
+
+/// Of two users with a fault each, each fault alone brings its cause, the later user's is that of
+/// the lower cause, and both together bring that. The other mostly still applies: only a sum may
+/// come out right again.
+#[test]
+fn two_users_with_a_fault_each() {
+    let mut random = Random::new(37);
+    for (first, second) in [(22, 23), (22, 24), (23, 24)] {
+        let mut brought = 0;
+        for round in 0..400 {
+            let call = fit_judged(&mut random, round % 2);
+            let mut both = call.clone();
+            if !spoil_two_users(&mut random, &mut both, (first, second)) {
+                continue;
+            }
+            let later = (0..call.quantity.len()).rfind(|&g| call.quantity[g] != both.quantity[g]).unwrap();
+            let (mut early, mut late) = (both.clone(), call.clone());
+            early.quantity[later] = call.quantity[later];
+            late.quantity[later] = both.quantity[later];
+            assert!(changed(&call, &early) < Some(later));
+            assert_eq!([early.judge(), late.judge(), both.judge()], [Err(second), Err(first), Err(first)]);
+            brought += usize::from(judged_causes(&both).contains(&second));
+        }
+        assert!(brought > 60, "{first} and {second}: {brought}");
     }
 }
