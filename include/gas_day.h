@@ -27,10 +27,10 @@ extern "C" {
 
 /* ---- the version of this header. A library of another version has other structs or other calls: compare before the first call. A call that is added, with its
  * causes and limits, changes nothing for older programs and leaves the version as it is. A library of this version may be older and lack it: a program that makes the
- * call is then not linked, or is ended by the loader, which names the call. Added to version 2 so far: gas_day_preview_hour, gas_day_judge_hour. Since version 2
- * gas_day_open is told the day's length, and the record holds it */
+ * call is then not linked, or is ended by the loader, which names the call. Nothing is added to version 3 so far. Since version 2 gas_day_open is told the day's length,
+ * and the record holds it; since version 3 the record holds each zone's totals, so that a program that was built with the header of version 2 would pass a shorter one */
 
-#define GAS_DAY_VERSION UINT64_C(2)
+#define GAS_DAY_VERSION UINT64_C(3)
 
 uint64_t gas_day_version(void);
 
@@ -51,16 +51,18 @@ uint64_t gas_day_version(void);
 #define GAS_DAY_POSITION_MOST INT64_C(100000000)   /* a position, before or after settlement: of either sign */
 #define GAS_DAY_THRESHOLD_MOST INT64_C(1000000000) /* upper: 0 to this; lower: minus this to 0 */
 #define GAS_DAY_PRICE_MOST INT64_C(10000000)       /* of either sign */
+#define GAS_DAY_TOTAL_MOST INT64_C(332800000000)   /* what was sold, or bought, in a zone so far: 0 to this */
 #define GAS_DAY_FILE_MWH_DECIMALS 3                /* of an amount in MWh, in a file that is read: 12.345 means 12345 kWh */
 #define GAS_DAY_WRITE_BYTES_MOST 7833              /* lent bytes that are enough for every file: 25, and 61 for each of 128 lines */
 
 /* ---- causes: the first that applies, in the order of their numbers, but for 21, which comes after 1 and before 3. The words are the requirements'; those of 2, 6 and 21
- * are made of them, since the day has a length, and 23 has "a quantity" for their "one" */
+ * are made of them, since the day has a length and totals, and 23 has "a quantity" for their "one" */
 
 enum {
     GAS_DAY_ACCEPTED = 0,
     GAS_DAY_CAUSE_USERS = 1,         /* opening: user count not 1 to 128 */
-    GAS_DAY_CAUSE_RECORD = 2,        /* record's user count not 1 to 128, length not 23, 24 or 25, hours not 0 to the length, or a zone closed with fewer than the length */
+    GAS_DAY_CAUSE_RECORD = 2,        /* record's user count not 1 to 128, length not 23, 24 or 25, hours not 0 to the length, a zone closed with fewer than the length,
+                                      * a zone with no hours done whose totals are not zero, or a total below zero or above 332,800,000,000 */
     GAS_DAY_CAUSE_LENGTH = 3,        /* table not of 256 places, or a list or the scratch not of exactly the user count */
     GAS_DAY_CAUSE_ZONE = 4,          /* zone not 0 or 1 */
     GAS_DAY_CAUSE_CLOSED = 5,        /* zone closed */
@@ -83,14 +85,19 @@ enum {
     GAS_DAY_CAUSE_DAY_LENGTH = 21,   /* opening: length not 23, 24 or 25 */
     GAS_DAY_CAUSE_JUDGED_SIGN = 22,  /* a user who did not cause has a quantity or a causer's has the wrong sign */
     GAS_DAY_CAUSE_JUDGED_SHARE = 23, /* a quantity is 1 kWh or more off */
-    GAS_DAY_CAUSE_JUDGED_SUM = 24    /* the sum is wrong */
+    GAS_DAY_CAUSE_JUDGED_SUM = 24,   /* the sum is wrong */
+    GAS_DAY_CAUSE_TOTALS = 25        /* a total would pass the bound */
 };
 
-/* ---- the day record: given by value, answered by value */
+/* ---- the day record: given by value, answered by value. A zone's totals, sold and bought, are 0 at opening. An accepted hour of the zone adds its total to sold in an
+ * excess and to bought in a shortfall; an accepted closing adds what it sold and bought. An hour, its preview or a closing after which a total of its own zone would be
+ * above GAS_DAY_TOTAL_MOST is refused by cause 25, its last; a total that reaches this is no cause. Only an altered record can lead past it */
 
 typedef struct {
     int64_t hours;  /* done, 0 to the day's length */
     int64_t closed; /* 0 or 1; a record with another number is refused by cause 2 */
+    int64_t sold;   /* in kWh, as a size, of all accepted hours of the zone and its closing */
+    int64_t bought; /* in kWh, as a size, of all accepted hours of the zone and its closing */
 } gas_day_zone_day;
 
 typedef struct {
@@ -119,7 +126,7 @@ typedef struct {
 
 gas_day_thresholds gas_day_default_thresholds(int64_t month, int64_t zone);
 
-/* ---- an hour: causes 2 to 11. Fills quantity and money, changes the users' places of the zone in the table, sets the scratch to zero */
+/* ---- an hour: causes 2 to 11, then 25. Fills quantity and money, changes the users' places of the zone in the table, sets the scratch to zero */
 
 typedef struct {
     int64_t zone;
@@ -151,9 +158,9 @@ gas_day_hour gas_day_settle_hour(gas_day_day day, int64_t *table, size_t table_p
                                  size_t pooling_places, int64_t *quantity, size_t quantity_places, int64_t *money, size_t money_places, uint64_t *scratch,
                                  size_t scratch_places);
 
-/* ---- a preview of an hour, before it is booked: causes 2 to 11. Fills quantity and money and sets the scratch to zero, as gas_day_settle_hour would. Puts the users'
- * positions after the hour into after, which has a place for each user, and only reads the table. Answers what gas_day_settle_hour would, but for the record, which is the
- * one given */
+/* ---- a preview of an hour, before it is booked: causes 2 to 11, then 25. Fills quantity and money and sets the scratch to zero, as gas_day_settle_hour would. Puts the
+ * users' positions after the hour into after, which has a place for each user, and only reads the table. Answers what gas_day_settle_hour would, but for the record, which
+ * is the one given */
 
 gas_day_hour gas_day_preview_hour(gas_day_day day, const int64_t *table, size_t table_places, gas_day_hour_terms terms, const int64_t *entry,
                                   size_t entry_places, const int64_t *exit, size_t exit_places, const int64_t *title, size_t title_places,
@@ -161,10 +168,10 @@ gas_day_hour gas_day_preview_hour(gas_day_day day, const int64_t *table, size_t 
                                   size_t money_places, int64_t *after, size_t after_places, uint64_t *scratch, size_t scratch_places);
 
 /* ---- the judge of an operator's own quantities for an hour, which may be rounded in another way than those of gas_day_settle_hour and still be right: causes 2 to 11, as
- * of an hour, then 22 to 24. quantity is the operator's list: any numbers, and a place for each user. All areas are only read. Accepted are quantities that add to the
- * excess, or to minus the shortfall, or to zero if there is neither; only causers have any, with the right sign, and each is less than 1 kWh from the exact share. A causer
- * may have 0. Those that gas_day_settle_hour gives are accepted; accepted ones keep the market within its thresholds and let no position cross zero. 22 is looked at for
- * every user before 23, and 23 for every user before 24. Answers the record that is given, accepted or refused */
+ * of an hour, then 22 to 24; not 25, since nothing is added to the record. quantity is the operator's list: any numbers, and a place for each user. All areas are only
+ * read. Accepted are quantities that add to the excess, or to minus the shortfall, or to zero if there is neither; only causers have any, with the right sign, and each is
+ * less than 1 kWh from the exact share. A causer may have 0. Those that gas_day_settle_hour gives are accepted; accepted ones keep the market within its thresholds and
+ * let no position cross zero. 22 is looked at for every user before 23, and 23 for every user before 24. Answers the record that is given, accepted or refused */
 
 typedef struct {
     uint64_t cause;
@@ -175,7 +182,7 @@ gas_day_judged gas_day_judge_hour(gas_day_day day, const int64_t *table, size_t 
                                   size_t entry_places, const int64_t *exit, size_t exit_places, const int64_t *title, size_t title_places,
                                   const int64_t *pooling, size_t pooling_places, const int64_t *quantity, size_t quantity_places);
 
-/* ---- a closing, after all hours of the day: causes 2 to 8. Fills quantity and money, sets the zone's places in the table to zero */
+/* ---- a closing, after all hours of the day: causes 2 to 8, then 25. Fills quantity and money, sets the zone's places in the table to zero */
 
 typedef struct {
     int64_t zone;
@@ -186,8 +193,8 @@ typedef struct {
 typedef struct {
     uint64_t cause;
     gas_day_day day;
-    int64_t sold;   /* in kWh, as a size */
-    int64_t bought; /* in kWh, as a size */
+    int64_t sold;   /* by the closing alone, in kWh, as a size */
+    int64_t bought; /* by the closing alone, in kWh, as a size */
 } gas_day_closing;
 
 gas_day_closing gas_day_close_zone(gas_day_day day, int64_t *table, size_t table_places, gas_day_closing_terms terms, int64_t *quantity,

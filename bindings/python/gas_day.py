@@ -30,7 +30,7 @@ A call that is turned away raises `Refusal`, with the first cause that applies: 
     Traceback (most recent call last):
     gas_day.Refusal: settle_hour refused by cause 6: hour is not hours done plus 1, or above the day's length; at closing, hours done below it
     >>> day.record
-    Day(users=3, length=24, h=ZoneDay(hours=1, closed=False), l=ZoneDay(hours=0, closed=False))
+    Day(users=3, length=24, h=ZoneDay(hours=1, closed=False, sold=5000000, bought=0), l=ZoneDay(hours=0, closed=False, sold=0, bought=0))
 
 What is not a whole number is a TypeError, and a number beyond 64 bits an OverflowError, before the library is called.
 
@@ -99,11 +99,12 @@ __all__ = [
     "POSITION_MOST",
     "THRESHOLD_MOST",
     "PRICE_MOST",
+    "TOTAL_MOST",
     "FILE_MWH_DECIMALS",
     "WRITE_BYTES_MOST",
 ]
 
-VERSION = 2
+VERSION = 3
 """The version of the interface that this module is written for. A call that is added leaves it as it is."""
 
 # ---- limits, by the header's names. Every call checks them itself; they are here for who prepares its inputs
@@ -123,6 +124,7 @@ POOLING_MOST = 100_000_000  # of either sign
 POSITION_MOST = 100_000_000  # before or after settlement, of either sign
 THRESHOLD_MOST = 1_000_000_000  # upper: 0 to this; lower: minus this to 0
 PRICE_MOST = 10_000_000  # of either sign
+TOTAL_MOST = 332_800_000_000  # what was sold, or bought, in a zone so far: 0 to this
 FILE_MWH_DECIMALS = 3  # of an amount in MWh, in a file that is read: 12.345 means 12345 kWh
 WRITE_BYTES_MOST = 7_833  # lent bytes that are enough for every file: 25, and 61 for each of 128 lines
 
@@ -174,16 +176,18 @@ class Cause(IntEnum):
     JUDGED_SIGN = 22
     JUDGED_SHARE = 23
     JUDGED_SUM = 24
+    TOTALS = 25
 
     @property
     def words(self) -> str:
-        """The cause in the words of the requirements; those of 2, 6 and 21 are made of them, since the day has a length, and 23 has "a quantity" for their "one"."""
+        """The cause in the words of the requirements; those of 2, 6 and 21 are made of them, since the day has a length and totals; 23 has "a quantity" for their "one"."""
         return _WORDS[self]
 
 
 _WORDS = {
     Cause.USERS: "opening: user count not 1 to 128",
-    Cause.RECORD: "record's user count not 1 to 128, length not 23, 24 or 25, hours not 0 to the length, or a zone closed with fewer than the length",
+    Cause.RECORD: "record's user count not 1 to 128, length not 23, 24 or 25, hours not 0 to the length, a zone closed with fewer than the length, "
+    "a zone with no hours done whose totals are not zero, or a total below zero or above 332,800,000,000",
     Cause.LENGTH: "table not of 256 places, or a list or the scratch not of exactly the user count",
     Cause.ZONE: "zone not 0 or 1",
     Cause.CLOSED: "zone closed",
@@ -207,6 +211,7 @@ _WORDS = {
     Cause.JUDGED_SIGN: "a user who did not cause has a quantity or a causer's has the wrong sign",
     Cause.JUDGED_SHARE: "a quantity is 1 kWh or more off",
     Cause.JUDGED_SUM: "the sum is wrong",
+    Cause.TOTALS: "a total would pass the bound",
 }
 
 
@@ -235,10 +240,16 @@ class Refusal(Exception):
 
 @dataclass(frozen=True)
 class ZoneDay:
-    """The day record of one zone: the hours done, 0 to the day's length, and whether it is closed."""
+    """The day record of one zone: the hours done, 0 to the day's length, whether it is closed, and its totals: what was sold and what was bought in it so far, in kWh, as
+    sizes. They are 0 at opening. An accepted hour of the zone adds its total to `sold` in an excess and to `bought` in a shortfall; an accepted closing adds what it sold
+    and bought. An hour, its preview or a closing after which a total of its own zone would be above `TOTAL_MOST` is refused by cause 25, its last; a total that reaches
+    this is no cause. Only an altered record can lead past it.
+    """
 
     hours: int = 0
     closed: bool = False
+    sold: int = field(default_factory=int)  # 0, but no attribute of the class: a record that an older module stored has no totals, and is not taken for one of 0
+    bought: int = field(default_factory=int)
 
 
 @dataclass(frozen=True)
@@ -299,7 +310,7 @@ class HourPreview:
 
 @dataclass(frozen=True)
 class ClosingDone:
-    """An accepted closing: record and table after it, what the users sold and bought (in kWh, both as sizes), and each user's quantity and money."""
+    """An accepted closing: record and table after it, what the users sold and bought by it alone (in kWh, both as sizes), and each user's quantity and money."""
 
     day: Day
     table: List[int] = field(repr=False)
@@ -330,7 +341,7 @@ class HourFile:
 
 
 class _ZoneDay(Structure):
-    _fields_ = [("hours", c_int64), ("closed", c_int64)]
+    _fields_ = [("hours", c_int64), ("closed", c_int64), ("sold", c_int64), ("bought", c_int64)]
 
 
 class _Day(Structure):
@@ -492,7 +503,12 @@ def _expect(kind: type, value: object, what: str) -> None:
 
 def _zone_record(zone: ZoneDay, what: str) -> _ZoneDay:
     _expect(ZoneDay, zone, what)
-    return _ZoneDay(_whole(zone.hours, f"{what}.hours"), _whole(zone.closed, f"{what}.closed"))
+    return _ZoneDay(
+        _whole(zone.hours, f"{what}.hours"),
+        _whole(zone.closed, f"{what}.closed"),
+        _whole(zone.sold, f"{what}.sold"),
+        _whole(zone.bought, f"{what}.bought"),
+    )
 
 
 def _record(day: Day) -> _Day:
@@ -501,7 +517,7 @@ def _record(day: Day) -> _Day:
 
 
 def _zone_day(zone: _ZoneDay) -> ZoneDay:
-    return ZoneDay(zone.hours, bool(zone.closed) if zone.closed in (0, 1) else zone.closed)
+    return ZoneDay(zone.hours, bool(zone.closed) if zone.closed in (0, 1) else zone.closed, zone.sold, zone.bought)
 
 
 def _day(record: _Day) -> Day:
@@ -522,7 +538,7 @@ def open_day(users: int, length: int) -> State:
     so 3 does not come up.
 
     >>> open_day(users=3, length=25).day
-    Day(users=3, length=25, h=ZoneDay(hours=0, closed=False), l=ZoneDay(hours=0, closed=False))
+    Day(users=3, length=25, h=ZoneDay(hours=0, closed=False, sold=0, bought=0), l=ZoneDay(hours=0, closed=False, sold=0, bought=0))
     """
     table = _zeros(TABLE_PLACES)
     opened = _accepted("open_day", _library.gas_day_open(_whole(users, "users"), _whole(length, "length"), *_lent(table)))
@@ -553,7 +569,9 @@ def settle_hour(
     title: Numbers,
     pooling: Numbers,
 ) -> HourDone:
-    """Settles an hour: what becomes of record and table, who caused, and each user's quantity and money. Causes 2 to 11. Nothing given is changed."""
+    """Settles an hour: what becomes of record and table, who caused, and each user's quantity and money. The record's totals of the zone have what was sold or bought.
+    Causes 2 to 11, then 25. Nothing given is changed.
+    """
     terms, amounts = _hour_terms(zone, hour, thresholds, excess_price, shortfall_price), _amounts(entry, exit, title, pooling)
     return _settle(_record(day), _area(table, "table"), terms, amounts)
 
@@ -601,8 +619,8 @@ def preview_hour(
     title: Numbers,
     pooling: Numbers,
 ) -> HourPreview:
-    """Shows an hour before it is booked: who would cause, and what `settle_hour` would give each user as quantity, money and position after it. Causes 2 to 11. Nothing
-    given is changed.
+    """Shows an hour before it is booked: who would cause, and what `settle_hour` would give each user as quantity, money and position after it. Causes 2 to 11, then 25.
+    Nothing given is changed.
 
     >>> terms = dict(zone=Zone.H, hour=1, thresholds=Thresholds(4, 0), excess_price=20_000, shortfall_price=25_000)
     >>> preview_hour(Day(2, length=24), 256 * [0], **terms, entry=[9, 0], exit=[0, -2], title=[0, 0], pooling=[0, 0])
@@ -637,8 +655,8 @@ def judge_hour(
 ) -> None:
     """Judges an operator's own quantities for an hour, one of each user, which may be rounded in another way than those of `settle_hour` and still be right; those are
     accepted too. Returns if they are accepted, and raises `Refusal` if they are not: causes 2 to 11, as of an hour; then 22, 23 and 24, each looked at for every user
-    before the next. They have to add to the excess, or to minus the shortfall, or to zero if there is neither; only causers have any, with the right sign, and each is
-    less than 1 kWh from the exact share. Nothing given is changed.
+    before the next; not 25, since nothing is added to the record. They have to add to the excess, or to minus the shortfall, or to zero if there is neither; only causers
+    have any, with the right sign, and each is less than 1 kWh from the exact share. Nothing given is changed.
 
     >>> terms = dict(zone=Zone.H, hour=1, thresholds=Thresholds(1, 0), excess_price=20_000, shortfall_price=25_000)
     >>> amounts = dict(entry=[1, 1, 1], exit=[0, 0, 0], title=[0, 0, 0], pooling=[0, 0, 0])
@@ -657,11 +675,15 @@ def _judge(record: _Day, table: Any, terms: _HourTerms, amounts: List[Any], quan
 
 
 def close_zone(day: Day, table: Numbers, zone: int, *, excess_price: int, shortfall_price: int) -> ClosingDone:
-    """Closes a zone after all hours of its day: each user's quantity is its whole position. Causes 2 to 8. Nothing given is changed.
+    """Closes a zone after all hours of its day: each user's quantity is its whole position. The record's totals of the zone have what was sold and bought. Causes 2 to 8,
+    then 25. Nothing given is changed.
 
-    >>> day, table = Day(2, length=24, h=ZoneDay(hours=24)), [2, -2] + 254 * [0]
-    >>> close_zone(day, table, Zone.H, excess_price=20_000, shortfall_price=25_000).money
+    >>> day, table = Day(2, length=24, h=ZoneDay(hours=24, sold=5)), [2, -2] + 254 * [0]
+    >>> done = close_zone(day, table, Zone.H, excess_price=20_000, shortfall_price=25_000)
+    >>> done.money
     [40000, -50000]
+    >>> done.day.h
+    ZoneDay(hours=24, closed=True, sold=7, bought=2)
     """
     return _close(_record(day), _area(table, "table"), _closing_terms(zone, excess_price, shortfall_price))
 

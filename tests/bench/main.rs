@@ -3,6 +3,7 @@
 //! are comparable with those of the hour.
 
 use gas_day::{Amounts, Day, HourTerms, Outputs, ZoneDay};
+use ordinary::limits;
 use ordinary::made_up::{self, Kind};
 use ordinary::random::Random;
 use std::time::Instant;
@@ -13,9 +14,10 @@ const INPUTS: usize = 64;
 const PASSES: usize = 40;
 const ROUNDS: usize = 25;
 
-/// An hour 2 of the H zone, from a table that fits, and the quantities that it is settled by.
+/// An hour 2 of the H zone, from a table that fits, and the quantities that it is settled by. So much was sold in H before.
 struct Input {
     users: i64,
+    sold_h: i64,
     hours_l: i64,
     closed_l: bool,
     table: Vec<i64>,
@@ -52,11 +54,13 @@ fn library_day(input: &Input) -> Day {
         length: LENGTH,
         h: ZoneDay {
             hours: 1,
-            closed: 0,
+            sold: input.sold_h,
+            ..ZoneDay::default()
         },
         l: ZoneDay {
             hours: input.hours_l,
             closed: i64::from(input.closed_l),
+            ..ZoneDay::default()
         },
     }
 }
@@ -115,6 +119,8 @@ fn ordinary_day(input: &Input) -> ordinary::Day {
         length: LENGTH,
         hours: [1, input.hours_l],
         closed: [0, i64::from(input.closed_l)],
+        sold: [input.sold_h, 0],
+        bought: [0, 0],
     }
 }
 
@@ -209,6 +215,7 @@ fn inputs(random: &mut Random, kind: Kind, change: fn(&mut Input)) -> Vec<Input>
             let hour = made_up::hour(random, USERS, kind, &table[..128]);
             let mut input = Input {
                 users: USERS as i64,
+                sold_h: 0,
                 hours_l: 0,
                 closed_l: false,
                 table,
@@ -234,7 +241,7 @@ fn own_quantities(input: &Input) -> Vec<i64> {
 /// A change that spoils an hour, by name, and the cause that it is refused by. Where a list or the table is spoilt, it is at the last place: the dearest.
 type Spoilt = (&'static str, fn(&mut Input), u64);
 
-const SPOILT: [Spoilt; 14] = [
+const SPOILT: [Spoilt; 15] = [
     ("2, record", |input| input.users = 129, 2),
     ("3, pooling list too short", |input| input.hour.pooling.truncate(USERS - 1), 3),
     ("4, zone", |input| input.zone = 2, 4),
@@ -249,6 +256,7 @@ const SPOILT: [Spoilt; 14] = [
     ("9, last pooling amount", |input| input.hour.pooling[USERS - 1] = 100_000_001, 9),
     ("10, pooling sum", |input| input.hour.pooling[0] += 1, 10),
     ("11, last position before", leave_range, 11),
+    ("25, total of what was sold", |input| input.sold_h = *limits::TOTAL.end(), 25),
 ];
 
 /// The same of the quantities of a judged excess.

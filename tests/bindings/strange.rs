@@ -3,7 +3,7 @@
 use gas_day::{Amounts, ClosingTerms, Day, FileLists, HourTerms, Outputs, ZoneDay};
 use std::panic::{catch_unwind, set_hook};
 
-const ZONE: ZoneDay = ZoneDay { hours: 0, closed: 0 };
+const ZONE: ZoneDay = ZoneDay { hours: 0, closed: 0, sold: 0, bought: 0 };
 const TERMS: HourTerms = HourTerms { zone: 0, hour: 1, upper: 0, lower: 0, excess_price: 0, shortfall_price: 0 };
 
 fn open() {

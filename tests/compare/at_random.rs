@@ -1,7 +1,8 @@
-//! Calls made up at random: whole days with their conservation sums, single odd calls, previews and judged hours, openings, thresholds, files and writings.
+//! Calls made up at random: whole days with their conservation sums and their totals, single odd calls, previews and judged hours, openings, thresholds, files and writings.
 
-use crate::both::Run;
+use crate::both::{self, Run};
 use crate::counts::LENGTHS;
+use ordinary::limits;
 use ordinary::made_up::{self, Kind};
 use ordinary::random::Random;
 use ordinary::spoilt::Call;
@@ -14,10 +15,12 @@ fn first_hour(day: ordinary::Day, table: Vec<i64>, random: &mut Random) -> Call 
     Call::new(day, table, 0, 1, amounts)
 }
 
-/// For each place of the table: the amounts of the accepted hours, and the quantities of the accepted hours and closings.
+/// For each place of the table: the amounts of the accepted hours, and the quantities of the accepted hours and closings. For each zone: the sums of the positive and of the negative
+/// ones of these, and what an altered record had.
 struct Sums {
     amounts: Vec<i128>,
     quantities: Vec<i128>,
+    totals: [[i128; 2]; 2],
 }
 
 impl Sums {
@@ -25,6 +28,7 @@ impl Sums {
         Sums {
             amounts: vec![0; 256],
             quantities: vec![0; 256],
+            totals: [[0; 2]; 2],
         }
     }
 
@@ -32,6 +36,26 @@ impl Sums {
         for (g, &quantity) in call.quantity.iter().enumerate() {
             self.quantities[call.zone as usize * 128 + g] += i128::from(quantity);
         }
+        let sums = both::sums(&call.quantity);
+        (0..2).for_each(|side| self.totals[call.zone as usize][side] += sums[side]);
+    }
+
+    /// The record's totals are altered to be near the bound, in a zone that has hours done.
+    fn alter(&mut self, random: &mut Random, zone: usize, day: &mut ordinary::Day) {
+        let most = random.pick([10, 1_000_000_000, 100_000_000_000]);
+        [day.sold[zone], day.bought[zone]] = [0; 2].map(|_| limits::TOTAL.end() - random.between(0, most));
+        self.totals[zone] = [day.sold[zone], day.bought[zone]].map(i128::from);
+    }
+
+    /// The names of the totals in which something came up.
+    fn not_zero(&self) -> impl Iterator<Item = &'static str> + '_ {
+        let totals = [(0, 0), (0, 1), (1, 0), (1, 1)];
+        totals.into_iter().filter(|&(side, zone)| self.totals[zone][side] > 0).map(|(side, zone)| both::TOTALS[side][zone])
+    }
+
+    fn in_record(&self, at: &str, day: &ordinary::Day) {
+        let totals = [0, 1].map(|zone| [day.sold[zone], day.bought[zone]].map(i128::from));
+        assert_eq!(totals, self.totals, "{at}: the totals are not the sums of the quantities");
     }
 
     fn add_amounts(&mut self, call: &Call) {
@@ -50,8 +74,8 @@ impl Sums {
     }
 }
 
-/// Whole days of each length, until both zones are closed: hours of every kind and closings, accepted and refused, with the conservation sums. On every third day each hour is
-/// previewed first, and on every third its quantities are judged, which the sums do not count.
+/// Whole days of each length, until both zones are closed: hours of every kind and closings, accepted and refused, with the conservation sums, and after each call the totals. On
+/// every third day each hour is previewed first, and on every third its quantities are judged, which the sums do not count.
 pub fn days(run: &mut Run, seed: u64, rounds: usize) {
     let mut random = Random::new(seed);
     for round in 0..rounds {
@@ -67,7 +91,31 @@ pub fn days(run: &mut Run, seed: u64, rounds: usize) {
         }
         (0..4).for_each(|_| call_of_day(run, &mut random, &mut call, &mut sums, hour));
         sums.conserved(&run.at, &call.table);
+        sums.not_zero().for_each(|total| run.counts.count(both::TOTALS_OF_DAYS, total));
         run.counts.count("days to both closings by length of the day", &length.to_string());
+    }
+}
+
+/// Days in which the record is altered once in each zone, so that it is near the bound of its totals: a zone may then never be closed.
+pub fn altered_days(run: &mut Run, seed: u64, rounds: usize) {
+    let mut random = Random::new(seed);
+    for round in 0..rounds {
+        run.at = format!("altered days, seed {seed}, round {round}");
+        let users = random.pick([1, 2, 3, 128]);
+        let (day, table) = run.opening(users, random.pick(LENGTHS), 256).expect("opened");
+        let mut call = first_hour(day, table, &mut random);
+        let mut sums = Sums::new();
+        let hour = [Run::preview_and_hour, Run::judge_and_hour, Run::hour][round % 3];
+        let mut altered = [false; 2];
+        for _ in 0..80 {
+            call_of_day(run, &mut random, &mut call, &mut sums, hour);
+            let zone = random.below(2);
+            if !altered[zone] && call.day.hours[zone] > 0 && random.one_in(8) {
+                sums.alter(&mut random, zone, &mut call.day);
+                altered[zone] = true;
+            }
+        }
+        sums.conserved(&run.at, &call.table);
     }
 }
 
@@ -82,6 +130,7 @@ fn call_of_day(run: &mut Run, random: &mut Random, call: &mut Call, sums: &mut S
     } else {
         hour_of_day(run, random, call, sums, hour);
     }
+    sums.in_record(&run.at, &call.day);
 }
 
 fn closing_of_day(run: &mut Run, random: &mut Random, call: &mut Call, sums: &mut Sums) {
@@ -213,7 +262,7 @@ fn some_call(random: &mut Random) -> (Call, Kind) {
 fn odd(random: &mut Random, users: usize, call: &mut Call) {
     let number = made_up::odd_number(random);
     let length = random.pick([0, users - 1, users + 1]);
-    match random.below(17) {
+    match random.below(19) {
         0 => call.day.users = number,
         1 => call.day.hours[random.below(2)] = number,
         2 => call.day.closed[random.below(2)] = random.pick([0, 1, 2, number]),
@@ -232,8 +281,18 @@ fn odd(random: &mut Random, users: usize, call: &mut Call) {
         12 => call.money.resize(length, 9),
         13 => call.scratch.resize(length, 9),
         14 => call.day.length = random.pick([22, 23, 24, 25, 26, number]),
+        15 => call.day.sold[random.below(2)] = odd_total(random),
+        16 => call.day.bought[random.below(2)] = odd_total(random),
         _ => made_up::spoil(random, &mut call.amounts),
     }
+}
+
+/// A total near an end of its range, or so near to its bound that a call may pass it, or any odd number.
+fn odd_total(random: &mut Random) -> i64 {
+    let (least, bound) = limits::TOTAL.into_inner();
+    let most = random.pick([1, 1_000_000, 10_000_000_000]);
+    let (near, number) = (bound - random.between(0, most), made_up::odd_number(random));
+    random.pick([least - 1, least, bound, bound + 1, near, near, number])
 }
 
 /// Openings and default thresholds at and past their limits.

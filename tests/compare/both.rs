@@ -1,13 +1,15 @@
 //! One call by both: the same is given and lent to each; the answer, the record and everything lent are compared afterwards, and a refused call also with what was
 //! lent. A difference ends the run with where it came up and what was given. Every call is counted, by its cause and, if it is an accepted hour or preview, by its side; a
-//! judged hour also by its side and rounding, if its quantities were looked at.
+//! judged hour also by its side and rounding, if its quantities were looked at. What leads a total to its bound is counted apart.
 
 use crate::counts::{part_name, Counts};
 use gas_day::{Amounts, Cause, ClosingTerms, Day, HourTerms, FileLists, Outputs, ZoneDay};
+use ordinary::limits;
 use ordinary::made_up::Hour;
 use ordinary::spoilt::Call;
 use ordinary::spoilt_writing::Writing;
 use ordinary::{Outcome, Side, Terms};
+use std::cmp::Ordering;
 
 /// Where the comparison is, for the words of a difference, and what it has counted.
 pub struct Run {
@@ -19,6 +21,8 @@ fn as_library(day: ordinary::Day) -> Day {
     let zone = |z: usize| ZoneDay {
         hours: day.hours[z],
         closed: day.closed[z],
+        sold: day.sold[z],
+        bought: day.bought[z],
     };
     Day {
         users: day.users,
@@ -34,6 +38,8 @@ fn as_ordinary(day: Day) -> ordinary::Day {
         length: day.length,
         hours: [day.h.hours, day.l.hours],
         closed: [day.h.closed, day.l.closed],
+        sold: [day.h.sold, day.l.sold],
+        bought: [day.h.bought, day.l.bought],
     }
 }
 
@@ -211,19 +217,51 @@ pub const JUDGED_OF_A_DAY: [&str; 3] =
 /// How an accepted list of quantities is rounded.
 pub const ROUNDINGS: [&str; 2] = ["as settled", "otherwise"];
 
-/// What the settlement makes of the hour of a call whose own lists and scratch may be of any length: its side, and the quantities.
+/// The four totals by side and zone; and the rows of those that are not zero at the end of a day, and that an accepted call leads to the bound, or past it if nothing comes of that.
+pub const TOTALS: [[&str; 2]; 2] = [["sold of H", "sold of L"], ["bought of H", "bought of L"]];
+pub const TOTALS_OF_DAYS: &str = "days to both closings by total that is not zero";
+pub const HOURS_TO_THE_BOUND: &str = "accepted hours that lead a total to the bound";
+pub const PREVIEWS_TO_THE_BOUND: &str = "accepted previews that lead a total to the bound";
+pub const CLOSINGS_TO_THE_BOUND: &str = "accepted closings that lead a total to the bound";
+pub const JUDGED_PAST_THE_BOUND: &str = "accepted judged hours that would lead a total past the bound";
+
+/// The sums of the positive and of the negative quantities, both as sizes.
+pub fn sums(quantity: &[i64]) -> [i128; 2] {
+    [1, -1].map(|sign| quantity.iter().map(|&quantity| (sign * i128::from(quantity)).max(0)).sum())
+}
+
+/// Those of the zone's totals to which the quantities add something, and which they lead to the bound (equal), or past it (greater).
+fn led(day: &ordinary::Day, zone: usize, quantity: &[i64], to: Ordering) -> Vec<&'static str> {
+    let sums = sums(quantity);
+    let is_led = |&side: &usize| {
+        let before = [day.sold, day.bought][side][zone];
+        let after = i128::from(before) + sums[side];
+        sums[side] > 0 && after.cmp(&i128::from(*limits::TOTAL.end())) == to
+    };
+    (0..2).filter(is_led).map(|side| TOTALS[side][zone]).collect()
+}
+
+/// What the settlement makes of the hour of a call whose own lists and scratch may be of any length, and whose totals may be near the bound: its side, and the quantities.
 fn settled_side(call: &Call) -> (&'static str, Vec<i64>) {
-    let mut settled = Call::new(call.day, call.table.clone(), call.zone, call.hour, call.amounts.clone());
+    let day = ordinary::Day {
+        sold: [0; 2],
+        bought: [0; 2],
+        ..call.day
+    };
+    let mut settled = Call::new(day, call.table.clone(), call.zone, call.hour, call.amounts.clone());
     let (_, side, ..) = of_ordinary(settled.settle());
     (SIDES[side as usize], settled.quantity)
 }
 
-/// The accepted preview is booked: the table holds the positions after, and the record has one hour more.
+/// The accepted preview is booked: the table holds the positions after, and the record has one hour more, and in its totals the quantities.
 fn book(shown: &mut Call) {
     let zone = shown.zone as usize;
     let places = zone * 128..zone * 128 + shown.after.len();
     shown.table[places].copy_from_slice(&shown.after);
     shown.day.hours[zone] += 1;
+    let [sold, bought] = sums(&shown.quantity);
+    shown.day.sold[zone] += sold as i64;
+    shown.day.bought[zone] += bought as i64;
 }
 
 /// The hours done in the zone that is called, which is one.
@@ -261,7 +299,7 @@ impl Run {
     }
 
     /// The quantities that the call has are judged, then the hour is settled, and then its own quantities are judged of the state before it: accepted if the hour is, and else refused by
-    /// what it is refused by. Answers the hour's cause.
+    /// what it is refused by, but for 25, which a judge has not. Answers the hour's cause.
     pub fn judge_and_hour(&mut self, call: &mut Call) -> u64 {
         let before = call.clone();
         self.judge(call);
@@ -269,7 +307,8 @@ impl Run {
         let quantity = call.quantity.clone();
         let own = self.judge(&mut Call { quantity, ..before });
         // a refused hour leaves the quantities as they were
-        assert!(own == cause, "{}: an hour's own quantities are judged by {own}, and the hour by {cause}", self.at);
+        let agree = if cause == 25 { [0, 22, 23, 24].contains(&own) } else { own == cause };
+        assert!(agree, "{}: an hour's own quantities are judged by {own}, and the hour by {cause}", self.at);
         self.counts.count("hours and then their own quantities judged", if cause == 0 { "accepted" } else { "refused" });
         cause
     }
@@ -289,6 +328,9 @@ impl Run {
             self.by_side_and_rounding(&before, expected);
         }
         self.about_the_last_hour(&JUDGED_OF_A_DAY, &before, expected);
+        if expected == 0 {
+            self.about_the_bound(JUDGED_PAST_THE_BOUND, &before, &before.quantity, Ordering::Greater);
+        }
         expected
     }
 
@@ -315,6 +357,7 @@ impl Run {
         self.counts.call("previews by cause", expected.0);
         if expected.0 == 0 {
             self.counts.count("accepted previews by side", SIDES[expected.1 as usize]);
+            self.about_the_bound(PREVIEWS_TO_THE_BOUND, &before, &other.quantity, Ordering::Equal);
         }
         self.about_the_last_hour(&PREVIEWS_OF_A_DAY, &before, expected.0);
         expected
@@ -329,6 +372,7 @@ impl Run {
         self.counts.call("hours by cause", expected.0);
         if expected.0 == 0 {
             self.counts.count("accepted hours by side", SIDES[expected.1 as usize]);
+            self.about_the_bound(HOURS_TO_THE_BOUND, &before, &other.quantity, Ordering::Equal);
         }
         self.about_the_last_hour(&HOURS_OF_A_DAY, &before, expected.0);
         expected
@@ -344,7 +388,10 @@ impl Run {
         self.counts.call("closings by cause", expected.0);
         let length = before.day.length;
         match expected.0 {
-            0 => self.of_length("closings after the last hour by length of the day", length),
+            0 => {
+                self.of_length("closings after the last hour by length of the day", length);
+                self.about_the_bound(CLOSINGS_TO_THE_BOUND, &before, &other.quantity, Ordering::Equal);
+            }
             6 if done(&before) == length - 1 => self.of_length("closings an hour early, refused, by length of the day", length),
             _ => (),
         }
@@ -360,6 +407,12 @@ impl Run {
             6 if done(given) == length && given.hour == length + 1 => self.of_length(later, length),
             _ => (),
         }
+    }
+
+    /// Counts an accepted call by the totals of its zone that its quantities lead to the bound, or past it.
+    fn about_the_bound(&mut self, row: &str, given: &Call, quantity: &[i64], to: Ordering) {
+        let led = led(&given.day, given.zone as usize, quantity, to);
+        led.into_iter().for_each(|total| self.counts.count(row, total));
     }
 
     fn of_length(&mut self, row: &str, length: i64) {

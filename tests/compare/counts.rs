@@ -1,6 +1,9 @@
 //! How many calls were made of everything that is to come up, and how many of it there have to be at least.
 
-use crate::both::{HOURS_OF_A_DAY, JUDGED_OF_A_DAY, PREVIEWS_OF_A_DAY, ROUNDINGS, SIDES, UNITS};
+use crate::both::{
+    CLOSINGS_TO_THE_BOUND, HOURS_OF_A_DAY, HOURS_TO_THE_BOUND, JUDGED_OF_A_DAY, JUDGED_PAST_THE_BOUND, PREVIEWS_OF_A_DAY, PREVIEWS_TO_THE_BOUND, ROUNDINGS, SIDES, TOTALS,
+    TOTALS_OF_DAYS, UNITS,
+};
 use ordinary::made_up::Kind;
 use ordinary::spoilt::{closing_ways, hour_ways, judged_ways, preview_ways, Way};
 use ordinary::spoilt_file;
@@ -51,9 +54,22 @@ pub fn pairs(causes: impl IntoIterator<Item = u64>) -> Vec<(u64, u64)> {
     (0..causes.len()).flat_map(above).collect()
 }
 
+/// The causes of an hour and of a preview.
+fn hour_causes() -> impl Iterator<Item = u64> {
+    (2..=11).chain([25])
+}
+
+fn closing_causes() -> impl Iterator<Item = u64> {
+    (2..=8).chain([25])
+}
+
 /// The causes of a judged hour.
 fn judged_causes() -> impl Iterator<Item = u64> {
     (2..=11).chain(22..=24)
+}
+
+pub fn hour_pairs() -> Vec<(u64, u64)> {
+    pairs(hour_causes())
 }
 
 pub fn judged_pairs() -> Vec<(u64, u64)> {
@@ -61,7 +77,7 @@ pub fn judged_pairs() -> Vec<(u64, u64)> {
 }
 
 pub fn closing_pairs() -> Vec<(u64, u64)> {
-    pairs(2..=8).into_iter().filter(|&pair| pair != NO_CLOSING_PAIR).collect()
+    pairs(closing_causes()).into_iter().filter(|&pair| pair != NO_CLOSING_PAIR).collect()
 }
 
 pub fn pair_name((first, second): (u64, u64)) -> String {
@@ -104,10 +120,17 @@ fn accepted_rows() -> Vec<Row> {
     ]
 }
 
+/// Of totals near their bound.
+fn bound_rows() -> Vec<Row> {
+    let rows = [HOURS_TO_THE_BOUND, PREVIEWS_TO_THE_BOUND, CLOSINGS_TO_THE_BOUND, JUDGED_PAST_THE_BOUND];
+    rows.map(|name| row(name, LEAST_OF_A_PART, TOTALS.into_iter().flatten())).into()
+}
+
 /// Of whole days, and of where in its day a call is.
 fn day_rows() -> Vec<Row> {
     vec![
         row("days to both closings by length of the day", LEAST_OF_A_DAY, LENGTHS),
+        row(TOTALS_OF_DAYS, LEAST_OF_A_DAY, TOTALS.into_iter().flatten()),
         row(HOURS_OF_A_DAY[0], LEAST_OF_A_KIND, LENGTHS),
         row(HOURS_OF_A_DAY[1], LEAST_OF_A_KIND, LENGTHS),
         row(HOURS_OF_A_DAY[2], LEAST_OF_A_PART, LENGTHS),
@@ -124,11 +147,11 @@ fn day_rows() -> Vec<Row> {
 
 fn cause_rows() -> Vec<Row> {
     vec![
-        row("hours by cause", LEAST_OF_A_CAUSE, 2..=11),
-        row("previews by cause", LEAST_OF_A_CAUSE, 2..=11),
+        row("hours by cause", LEAST_OF_A_CAUSE, hour_causes()),
+        row("previews by cause", LEAST_OF_A_CAUSE, hour_causes()),
         row("judged hours by cause", LEAST_OF_A_CAUSE, judged_causes()),
         row("judged hours by cause and side", LEAST_OF_A_SIDE, JUDGED_SIDES.map(|(cause, side)| part_name(cause, side))),
-        row("closings by cause", LEAST_OF_A_CAUSE, 2..=8),
+        row("closings by cause", LEAST_OF_A_CAUSE, closing_causes()),
         row("openings by cause", LEAST_OF_A_CAUSE, [1, 21, 3]),
         row("thresholds by cause", LEAST_OF_A_CAUSE, [4, 8]),
         row("files by cause", LEAST_OF_A_CAUSE, 12..=17),
@@ -156,8 +179,8 @@ fn part_rows() -> Vec<Row> {
 
 fn pair_rows() -> Vec<Row> {
     vec![
-        pairs_row("hours by pair of causes", &pairs(2..=11)),
-        pairs_row("previews by pair of causes", &pairs(2..=11)),
+        pairs_row("hours by pair of causes", &hour_pairs()),
+        pairs_row("previews by pair of causes", &hour_pairs()),
         pairs_row("judged hours by pair of causes", &judged_pairs()),
         pairs_row("judged hours by pair of causes of two users, the later user's first", &TWO_USERS),
         pairs_row("closings by pair of causes", &closing_pairs()),
@@ -173,7 +196,7 @@ fn pair_rows() -> Vec<Row> {
 impl Counts {
     /// The table: everything that is to come up, none of it yet.
     pub fn new() -> Counts {
-        let rows = [accepted_rows(), day_rows(), cause_rows(), part_rows(), pair_rows()];
+        let rows = [accepted_rows(), bound_rows(), day_rows(), cause_rows(), part_rows(), pair_rows()];
         Counts { rows: rows.into_iter().flatten().collect(), calls: 0 }
     }
 

@@ -1,12 +1,13 @@
 //! Calls spoilt on purpose: by every part of every cause, in both zones, and by every two causes that can come together, so that the first is answered.
 
 use crate::both::Run;
-use crate::counts::{closing_pairs, judged_pairs, pair_name, pairs, part_name, FILE_PAIRS, LENGTHS, LINE_PAIRS, TWO_LINES, TWO_USERS};
+use crate::counts::{closing_pairs, hour_pairs, judged_pairs, pair_name, pairs, part_name, FILE_PAIRS, LENGTHS, LINE_PAIRS, TWO_LINES, TWO_USERS};
 use ordinary::present::{closing_causes, hour_causes, judged_causes, preview_causes, writing_causes};
 use ordinary::random::Random;
 use ordinary::spoilt::{closing_ways, fit_closing, fit_hour, fit_judged, hour_ways, judged_ways, preview_ways, Call, Way};
 use ordinary::spoilt_file::{fit_file, File, FileWay, WAYS};
 use ordinary::spoilt_quantities::spoil_two_users;
+use ordinary::spoilt_totals::{added_by_closing, added_by_hour, lead, lead_others, Added, Total};
 use ordinary::spoilt_writing::{fit_writing, Writing, WritingWay, ROOMS, WRITING_WAYS};
 
 /// What differs between hours, previews, judged hours and closings.
@@ -26,7 +27,7 @@ const HOURS: Calls = Calls {
     rows: ["hours of zone H by part of a cause", "hours of zone L by part of a cause"],
     pairs_row: "hours by pair of causes",
     ways: hour_ways,
-    pairs: || pairs(2..=11),
+    pairs: hour_pairs,
     fit: fit_hour,
     both: Run::hour,
     present: hour_causes,
@@ -37,7 +38,7 @@ const PREVIEWS: Calls = Calls {
     rows: ["previews of zone H by part of a cause", "previews of zone L by part of a cause"],
     pairs_row: "previews by pair of causes",
     ways: preview_ways,
-    pairs: || pairs(2..=11),
+    pairs: hour_pairs,
     fit: fit_hour,
     both: Run::preview,
     present: preview_causes,
@@ -72,7 +73,7 @@ pub fn calls_of_a_day(run: &mut Run, seed: u64, rounds: usize) {
         run.at = format!("{}, seed {seed}", calls.name);
         for zone in [0, 1] {
             for way in (calls.ways)() {
-                // of the ways of an operator's quantities more find no room in an hour
+                // of the ways of an operator's quantities, and of those past the bound, more find no room in an hour
                 let times = if way.cause < 22 { rounds } else { 4 * rounds };
                 (0..times).for_each(|_| spoilt_once(run, &mut random, &calls, zone, way));
             }
@@ -109,6 +110,41 @@ fn spoilt_twice(run: &mut Run, random: &mut Random, calls: &Calls, (lower, highe
     assert_eq!(cause, causes.first().copied().unwrap_or(0), "{}: not the first cause that applies", run.at);
     if cause == lower && causes.contains(&higher) {
         run.counts.count(calls.pairs_row, &pair_name((lower, higher)));
+    }
+}
+
+/// Hours, previews and closings of an altered record whose totals they lead to the bound, and just past it; and judged hours, to which that does not matter.
+pub fn to_the_bound(run: &mut Run, seed: u64, rounds: usize) {
+    let mut random = Random::new(seed);
+    run.at = format!("calls to the bound on purpose, seed {seed}");
+    for _ in 0..rounds {
+        for (zone, total) in [(0, Total::Sold), (0, Total::Bought), (1, Total::Sold), (1, Total::Bought)] {
+            led(run, &mut random, &HOURS, (zone, total), added_by_hour);
+            led(run, &mut random, &PREVIEWS, (zone, total), added_by_hour);
+            led(run, &mut random, &CLOSINGS, (zone, total), added_by_closing);
+            judged_past(run, &mut random, (zone, total));
+        }
+    }
+}
+
+/// The call leads the total to the bound, if it adds to it, and is accepted; from one more it is refused.
+fn led(run: &mut Run, random: &mut Random, calls: &Calls, (zone, total): (i64, Total), added: fn(&Call) -> Added) {
+    let mut call = (calls.fit)(random, zone);
+    if !lead(&mut call, added, total, 0) {
+        return;
+    }
+    lead_others(random, &mut call, added, total);
+    assert_eq!((calls.both)(run, &mut call.clone()), 0, "{}: a call that leads a total to the bound was refused", run.at);
+    total.of(&mut call.day)[zone as usize] += 1;
+    assert_eq!((calls.both)(run, &mut call), 25, "{}: a call that leads a total past the bound was not refused by 25", run.at);
+}
+
+/// A judged hour that would lead the total past the bound, or just to it, is accepted.
+fn judged_past(run: &mut Run, random: &mut Random, (zone, total): (i64, Total)) {
+    let mut call = fit_judged(random, zone);
+    if lead(&mut call, added_by_hour, total, random.between(0, 1)) {
+        lead_others(random, &mut call, added_by_hour, total);
+        assert_eq!(run.judge(&mut call), 0, "{}: a judged hour was refused near the bound", run.at);
     }
 }
 

@@ -80,18 +80,30 @@ static gas_day_closing close_zone(gas_day_day day, gas_day_closing_terms terms) 
     return gas_day_close_zone(day, lent.table, GAS_DAY_TABLE_PLACES, terms, lent.quantity, USERS, lent.money, USERS);
 }
 
-static void day_is(gas_day_day day, int64_t users, int64_t length, int64_t h_hours, int64_t h_closed, int64_t l_hours, int64_t l_closed) {
-    IS(day.users, users);
-    IS(day.length, length);
-    IS(day.h.hours, h_hours);
-    IS(day.h.closed, h_closed);
-    IS(day.l.hours, l_hours);
-    IS(day.l.closed, l_closed);
+static gas_day_zone_day zone_of(int64_t hours, int64_t closed, int64_t sold, int64_t bought) {
+    gas_day_zone_day zone;
+    zone.hours = hours;
+    zone.closed = closed;
+    zone.sold = sold;
+    zone.bought = bought;
+    return zone;
 }
 
-static void same_day(gas_day_day day, gas_day_day given) {
-    day_is(day, given.users, given.length, given.h.hours, given.h.closed, given.l.hours, given.l.closed);
+static void zone_is(gas_day_zone_day zone, gas_day_zone_day expected) {
+    IS(zone.hours, expected.hours);
+    IS(zone.closed, expected.closed);
+    IS(zone.sold, expected.sold);
+    IS(zone.bought, expected.bought);
 }
+
+static void day_is(gas_day_day day, int64_t users, int64_t length, gas_day_zone_day h, gas_day_zone_day l) {
+    IS(day.users, users);
+    IS(day.length, length);
+    zone_is(day.h, h);
+    zone_is(day.l, l);
+}
+
+static void same_day(gas_day_day day, gas_day_day given) { day_is(day, given.users, given.length, given.h, given.l); }
 
 static void hour_is(gas_day_hour hour, uint64_t cause, uint64_t side, int64_t total, uint64_t first, uint64_t second, uint64_t number) {
     IS(hour.cause, cause);
@@ -191,7 +203,7 @@ static gas_day_day opened_day(int64_t length) {
     for (int p = 0; p < GAS_DAY_TABLE_PLACES; p++) lent.table[p] = ODD;
     gas_day_opened opened = gas_day_open(USERS, length, lent.table, GAS_DAY_TABLE_PLACES);
     IS(opened.cause, GAS_DAY_ACCEPTED);
-    day_is(opened.day, USERS, length, 0, 0, 0, 0);
+    day_is(opened.day, USERS, length, zone_of(0, 0, 0, 0), zone_of(0, 0, 0, 0));
     for (int p = 0; p < GAS_DAY_TABLE_PLACES; p++) IS(lent.table[p], 0);
     return opened.day;
 }
@@ -201,7 +213,7 @@ static void open_refused(int64_t users, int64_t length, size_t places, uint64_t 
     table[0] = table[places == 0 ? 0 : places - 1] = ODD;
     gas_day_opened opened = gas_day_open(users, length, places == 0 ? NULL : table, places);
     IS(opened.cause, cause);
-    day_is(opened.day, 0, 0, 0, 0, 0, 0);
+    day_is(opened.day, 0, 0, zone_of(0, 0, 0, 0), zone_of(0, 0, 0, 0));
     IS(table[0], ODD);
     IS(table[places == 0 ? 0 : places - 1], ODD);
 }
@@ -249,7 +261,7 @@ static gas_day_day excess(gas_day_day day) {
     lent.pooling[2] = -1;
     lent.exit[2] = -3;
     gas_day_hour hour = settle_previewed(day, terms_of(0, 1, 27, -1000, 20, 25));
-    day_is(hour.day, USERS, day.length, 1, 0, 0, 0);
+    day_is(hour.day, USERS, day.length, zone_of(1, 0, 9, 0), zone_of(0, 0, 0, 0));
     hour_is(hour, GAS_DAY_ACCEPTED, GAS_DAY_EXCESS, 9, 2, 7, 4);
     for (int g = 0; g < USERS; g++) {
         int64_t quantity = g == 1 ? 3 : g >= 64 ? 2 : 0;
@@ -268,7 +280,7 @@ static gas_day_day shortfall(gas_day_day day) {
     lent.exit[0] = -8;
     lent.title[66] = -4;
     gas_day_hour hour = settle_previewed(day, terms_of(1, 1, 1000, -6, 20, 25));
-    day_is(hour.day, USERS, day.length, 1, 0, 1, 0);
+    day_is(hour.day, USERS, day.length, zone_of(1, 0, 9, 0), zone_of(1, 0, 0, 6));
     hour_is(hour, GAS_DAY_ACCEPTED, GAS_DAY_SHORTFALL, 6, 1, 4, 2);
     IS(lent.quantity[0], -4);
     IS(lent.quantity[66], -2);
@@ -287,7 +299,7 @@ static gas_day_day to_the_last_hour(gas_day_day day) {
         no_amounts();
         closing_refused(day, closing, GAS_DAY_CAUSE_HOUR);
         gas_day_hour hour = settle_previewed(day, wide(0, h));
-        day_is(hour.day, USERS, day.length, h, 0, 1, 0);
+        day_is(hour.day, USERS, day.length, zone_of(h, 0, 9, 0), zone_of(1, 0, 0, 6));
         hour_is(hour, GAS_DAY_ACCEPTED, GAS_DAY_WITHIN, 0, 0, 0, 0);
         day = hour.day;
     }
@@ -295,7 +307,7 @@ static gas_day_day to_the_last_hour(gas_day_day day) {
     return day;
 }
 
-/* Places 1, 64, 65 and 66 stand at 7, 8, 8 and 8, place 2 at -4: 31 are sold and 4 bought. */
+/* Places 1, 64, 65 and 66 stand at 7, 8, 8 and 8, place 2 at -4: 31 are sold and 4 bought, 31 after the 9 of the first hour. */
 static gas_day_day closing(gas_day_day day) {
     no_amounts();
     gas_day_closing_terms terms;
@@ -304,7 +316,7 @@ static gas_day_day closing(gas_day_day day) {
     terms.shortfall_price = 35;
     gas_day_closing answer = close_zone(day, terms);
     IS(answer.cause, GAS_DAY_ACCEPTED);
-    day_is(answer.day, USERS, day.length, day.length, 1, 1, 0);
+    day_is(answer.day, USERS, day.length, zone_of(day.length, 1, 40, 4), zone_of(1, 0, 0, 6));
     IS(answer.sold, 31);
     IS(answer.bought, 4);
     for (int g = 0; g < USERS; g++) {
@@ -416,6 +428,180 @@ static void records(gas_day_day day) {
     for (size_t i = 0; i < n; i++) {
         hour_refused(spoilt[i], hour, GAS_DAY_CAUSE_RECORD);
         closing_refused(spoilt[i], closing_terms, GAS_DAY_CAUSE_RECORD);
+    }
+}
+
+/* ---- the totals of a record: by what cause 2 says of them, and at their bound */
+
+enum { TOTALS = 4 };
+
+/* In turn: sold and bought of the H zone, sold and bought of the L zone. */
+static int64_t *total_of(gas_day_day *day, int i) {
+    gas_day_zone_day *zone = i < 2 ? &day->h : &day->l;
+    return i % 2 == 0 ? &zone->sold : &zone->bought;
+}
+
+/* With this number for a total the record is no day's. */
+static void total_refused(gas_day_day day, int i, int64_t number) {
+    gas_day_closing_terms closing_terms = {1, 0, 0};
+    *total_of(&day, i) = number;
+    hour_refused(day, wide(1, day.l.hours + 1), GAS_DAY_CAUSE_RECORD);
+    closing_refused(day, closing_terms, GAS_DAY_CAUSE_RECORD);
+}
+
+/* Each total below 0 and above its bound, and other than 0 in a zone with no hours done. At their bound all four are fit, if nothing is added. */
+static void totals_of_records(gas_day_day day) {
+    gas_day_day most = day;
+    no_amounts();
+    for (int i = 0; i < TOTALS; i++) {
+        gas_day_day early = day;
+        *(i < 2 ? &early.h : &early.l) = zone_of(0, 0, 0, 0);
+        total_refused(early, i, 1);
+        total_refused(early, i, GAS_DAY_TOTAL_MOST);
+        total_refused(day, i, -1);
+        total_refused(day, i, INT64_MIN);
+        total_refused(day, i, GAS_DAY_TOTAL_MOST + 1);
+        total_refused(day, i, INT64_MAX);
+        *total_of(&most, i) = GAS_DAY_TOTAL_MOST;
+    }
+    hour_accepted(most, wide(1, most.l.hours + 1));
+}
+
+/* An altered record, with an empty table: so many hours done in both zones, and all four totals at their bound. */
+static gas_day_day day_at_the_bound(int64_t hours) {
+    gas_day_day day;
+    day.users = USERS;
+    day.length = GAS_DAY_LENGTH_MOST;
+    day.h = day.l = zone_of(hours, 0, GAS_DAY_TOTAL_MOST, GAS_DAY_TOTAL_MOST);
+    memset(lent.table, 0, sizeof lent.table);
+    return day;
+}
+
+/* Place 1 comes to 6 and place 66 to 4, or both to that size below zero: with thresholds of 5 and -5 the one sells, or buys, 3 and the other 2. */
+static void amounts_of_5(int side) {
+    no_amounts();
+    *(side == 1 ? &lent.entry[1] : &lent.exit[1]) = 6 * side;
+    lent.title[66] = 4 * side;
+}
+
+/* An hour and its preview are refused by cause 25, and the quantities that it would have are accepted by a judge. */
+static void hour_past_the_bound(gas_day_day day, gas_day_hour_terms terms, int side) {
+    areas before = lent;
+    is_refused(settle(day, terms), day, GAS_DAY_CAUSE_TOTALS, &before);
+    is_refused(preview(day, terms), day, GAS_DAY_CAUSE_TOTALS, &before);
+    for (int g = 0; g < USERS; g++) lent.quantity[g] = g == 1 ? 3 * side : g == 66 ? 2 * side : 0;
+    judged(day, terms, GAS_DAY_ACCEPTED);
+    lent = before;
+}
+
+/* An hour's total of 5 in a zone, on a side: its own total may come to the bound and not past it, whatever the other three are. */
+static void hour_at_the_bound(int zone, int side) {
+    int i = 2 * zone + (side == 1 ? 0 : 1);
+    gas_day_day day = day_at_the_bound(1);
+    gas_day_hour_terms terms = terms_of(zone, 2, 5, -5, 20, 25);
+    amounts_of_5(side);
+    areas before = lent;
+    for (int64_t room = 0; room <= 6; room++) {
+        *total_of(&day, i) = GAS_DAY_TOTAL_MOST - room;
+        if (room < 5) {
+            hour_past_the_bound(day, terms, side);
+            continue;
+        }
+        gas_day_day expected = day;
+        (zone == 0 ? &expected.h : &expected.l)->hours = 2;
+        *total_of(&expected, i) = GAS_DAY_TOTAL_MOST - room + 5;
+        same_day(settle_previewed(day, terms).day, expected);
+        lent = before;
+    }
+}
+
+/* The same after all hours of the day: in the zone places 1, 66 and 2 stand at 7, 5 and -4, so that a closing sells 12 and buys 4. */
+static gas_day_day day_to_be_closed(int zone) {
+    gas_day_day day = day_at_the_bound(GAS_DAY_LENGTH_MOST);
+    int64_t *places = &lent.table[zone * GAS_DAY_ZONE_PLACES];
+    places[1] = 7;
+    places[66] = 5;
+    places[2] = -4;
+    no_amounts();
+    return day;
+}
+
+/* Both totals of a zone that is closed may come to the bound, and neither past it, whatever those of the other zone are. */
+static void closing_at_the_bound(int zone) {
+    static const struct {
+        int64_t sold, bought; /* how far from the bound */
+        uint64_t cause;
+    } rooms[] = {
+        {12, 4, GAS_DAY_ACCEPTED}, {13, 5, GAS_DAY_ACCEPTED}, {11, 4, GAS_DAY_CAUSE_TOTALS}, {12, 3, GAS_DAY_CAUSE_TOTALS},
+        {0, 0, GAS_DAY_CAUSE_TOTALS}, {GAS_DAY_TOTAL_MOST, 3, GAS_DAY_CAUSE_TOTALS}, {11, GAS_DAY_TOTAL_MOST, GAS_DAY_CAUSE_TOTALS},
+    };
+    gas_day_closing_terms terms = {zone, 20, 25};
+    for (size_t i = 0; i < sizeof rooms / sizeof *rooms; i++) {
+        gas_day_day day = day_to_be_closed(zone);
+        *total_of(&day, 2 * zone) -= rooms[i].sold;
+        *total_of(&day, 2 * zone + 1) -= rooms[i].bought;
+        if (rooms[i].cause != GAS_DAY_ACCEPTED) {
+            closing_refused(day, terms, rooms[i].cause);
+            continue;
+        }
+        gas_day_closing answer = close_zone(day, terms);
+        IS(answer.cause, GAS_DAY_ACCEPTED);
+        IS(answer.sold, 12);
+        IS(answer.bought, 4);
+        *total_of(&day, 2 * zone) += 12;
+        *total_of(&day, 2 * zone + 1) += 4;
+        (zone == 0 ? &day.h : &day.l)->closed = 1;
+        same_day(answer.day, day);
+    }
+}
+
+/* What brings about one of the causes of an hour or of a closing, but for 3. */
+static void spoil(int cause, gas_day_zone_day *own, gas_day_day *day, gas_day_hour_terms *terms) {
+    switch (cause) {
+    case GAS_DAY_CAUSE_RECORD: day->users = GAS_DAY_USERS_MOST + 1; break;
+    case GAS_DAY_CAUSE_ZONE: terms->zone = 2; break;
+    case GAS_DAY_CAUSE_CLOSED: *own = zone_of(day->length, 1, own->sold, own->bought); break;
+    case GAS_DAY_CAUSE_HOUR: own->hours--; break;
+    case GAS_DAY_CAUSE_TABLE: lent.table[USERS] = 1; break;
+    case GAS_DAY_CAUSE_TERMS: terms->excess_price = GAS_DAY_PRICE_MOST + 1; break;
+    case GAS_DAY_CAUSE_AMOUNT: lent.entry[66] = -1; break;
+    case GAS_DAY_CAUSE_POOLING: lent.pooling[66] = 1; break;
+    case GAS_DAY_CAUSE_POSITION: lent.table[terms->zone * GAS_DAY_ZONE_PLACES + 1] = GAS_DAY_POSITION_MOST; break;
+    }
+}
+
+/* An hour that is refused by cause 25 has each of the others first. */
+static void causes_before_the_totals_of_an_hour(int zone) {
+    for (int cause = GAS_DAY_CAUSE_RECORD; cause <= GAS_DAY_CAUSE_POSITION; cause++) {
+        if (cause == GAS_DAY_CAUSE_LENGTH) continue;
+        gas_day_day day = day_at_the_bound(2);
+        gas_day_hour_terms terms = terms_of(zone, 3, 5, -5, 20, 25);
+        amounts_of_5(1);
+        hour_past_the_bound(day, terms, 1);
+        spoil(cause, zone == 0 ? &day.h : &day.l, &day, &terms);
+        hour_refused(day, terms, (uint64_t)cause);
+    }
+}
+
+/* The same of a closing. */
+static void causes_before_the_totals_of_a_closing(int zone) {
+    for (int cause = GAS_DAY_CAUSE_RECORD; cause <= GAS_DAY_CAUSE_TERMS; cause++) {
+        if (cause == GAS_DAY_CAUSE_LENGTH) continue;
+        gas_day_day day = day_to_be_closed(zone);
+        gas_day_hour_terms terms = terms_of(zone, 0, 0, 0, 20, 25);
+        spoil(cause, zone == 0 ? &day.h : &day.l, &day, &terms);
+        gas_day_closing_terms closing_terms = {terms.zone, terms.excess_price, terms.shortfall_price};
+        closing_refused(day, closing_terms, (uint64_t)cause);
+    }
+}
+
+static void totals_at_the_bound(void) {
+    for (int zone = 0; zone <= 1; zone++) {
+        hour_at_the_bound(zone, 1);
+        hour_at_the_bound(zone, -1);
+        closing_at_the_bound(zone);
+        causes_before_the_totals_of_an_hour(zone);
+        causes_before_the_totals_of_a_closing(zone);
     }
 }
 
@@ -804,6 +990,7 @@ int main(void) {
     limits_of_terms(day);
     limits_of_a_closing(day);
     records(day);
+    totals_of_records(day);
     lengths_of_a_preview(day);
     lengths_of_a_judge(day);
     judged_case_a(day);
@@ -812,6 +999,7 @@ int main(void) {
     judged_within(day);
     empty_areas(day);
     areas_for_reading();
+    totals_at_the_bound();
     files();
     written_files();
     printf("header: %d checks, %d wrong\n", checks, wrong);

@@ -1,12 +1,14 @@
 //! Calls and what the ordinary settlement answers, one a line as JSON, for the test of a binding that is not written in Rust: openings, thresholds, whole days call by
-//! call, each hour after its preview and after quantities are judged for it, hours, previews, judged hours and closings spoilt in every way, files, and writings. What a binding
+//! call, each hour after its preview and after quantities are judged for it, hours, previews, judged hours and closings spoilt in every way, or led by an altered record to the
+//! bound of a total and past it, files, and writings. A record is its users, its length, and for H and then L the hours done, 0 or 1 for closed, sold and bought. What a binding
 //! lends of its own (quantity, money, the positions after, scratch, the reader's lists, the writer's bytes) is always of the right length, or enough.
 
 use ordinary::made_up::{self, Kind};
 use ordinary::random::Random;
-use ordinary::spoilt::{closing_ways, fit_closing, fit_hour, fit_judged, hour_ways, judged_ways, Call};
+use ordinary::spoilt::{closing_ways, fit_closing, fit_hour, fit_judged, hour_ways, judged_ways, Call, Way};
 use ordinary::spoilt_file::{fit_file, WAYS};
 use ordinary::spoilt_quantities::right_quantities;
+use ordinary::spoilt_totals::{added_by_closing, added_by_hour, lead, Total};
 use ordinary::spoilt_writing::{fit_writing, Writing, WRITING_WAYS};
 use ordinary::{Day, Outcome, Side};
 
@@ -18,7 +20,8 @@ enum Of {
 }
 
 fn record(day: &Day) -> String {
-    format!("[{}, {}, {}, {}, {}, {}]", day.users, day.length, day.hours[0], day.closed[0], day.hours[1], day.closed[1])
+    let [h, l] = [0, 1].map(|zone| format!("{}, {}, {}, {}", day.hours[zone], day.closed[zone], day.sold[zone], day.bought[zone]));
+    format!("[{}, {}, {h}, {l}]", day.users, day.length)
 }
 
 fn given(of: Of, call: &Call) -> String {
@@ -198,6 +201,38 @@ fn day(random: &mut Random, users: usize, length: i64) {
     closing(Of::Day, &mut call);
 }
 
+/// A fit call that the way has spoilt: it finds room in it.
+fn spoilt(random: &mut Random, fit: fn(&mut Random, i64) -> Call, zone: i64, way: &Way) -> Call {
+    loop {
+        let call = fit(random, zone);
+        let mut spoilt = call.clone();
+        (way.spoil)(random, &mut spoilt);
+        if spoilt != call {
+            return spoilt;
+        }
+    }
+}
+
+/// An hour, its preview and the judge of its quantities, and a closing, that lead a total so far beyond the bound: accepted if it comes to it, and else the judge alone.
+fn led(random: &mut Random, zone: i64, total: Total, beyond: i64) {
+    loop {
+        let mut call = fit_hour(random, zone);
+        call.quantity = right_quantities(random, &call);
+        if lead(&mut call, added_by_hour, total, beyond) {
+            judge(Of::Nothing, &mut call);
+            previewed_hour(Of::Nothing, &mut call);
+            break;
+        }
+    }
+    loop {
+        let mut call = fit_closing(random, zone);
+        if lead(&mut call, added_by_closing, total, beyond) {
+            closing(Of::Nothing, &mut call);
+            break;
+        }
+    }
+}
+
 fn main() {
     let mut random = Random::new(1);
     openings();
@@ -209,19 +244,16 @@ fn main() {
     }
     for zone in [0, 1, 0, 1] {
         for way in hour_ways() {
-            let mut call = fit_hour(&mut random, zone);
-            (way.spoil)(&mut random, &mut call);
-            previewed_hour(Of::Nothing, &mut call);
+            previewed_hour(Of::Nothing, &mut spoilt(&mut random, fit_hour, zone, way));
         }
         for way in judged_ways() {
-            let mut call = fit_judged(&mut random, zone);
-            (way.spoil)(&mut random, &mut call);
-            judge(Of::Nothing, &mut call);
+            judge(Of::Nothing, &mut spoilt(&mut random, fit_judged, zone, way));
         }
         for way in closing_ways() {
-            let mut call = fit_closing(&mut random, zone);
-            (way.spoil)(&mut random, &mut call);
-            closing(Of::Nothing, &mut call);
+            closing(Of::Nothing, &mut spoilt(&mut random, fit_closing, zone, way));
+        }
+        for total in Total::ALL {
+            (0..2).for_each(|beyond| led(&mut random, zone, total, beyond));
         }
     }
     for lines in [1, 2, 3, 128, 1, 2, 3, 128] {

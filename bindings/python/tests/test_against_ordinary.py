@@ -13,18 +13,18 @@ LISTS = ("entry", "exit", "title", "pooling")
 CAUSES = {
     "open_day": [0, 1, 21],
     "default_thresholds": [0, 4, 8],
-    "settle_hour": [0, *range(2, 12)],
-    "preview_hour": [0, *range(2, 12)],
+    "settle_hour": [0, *range(2, 12), 25],
+    "preview_hour": [0, *range(2, 12), 25],
     "judge_hour": [0, *range(2, 12), 22, 23, 24],
-    "close_zone": [0, *range(2, 9)],
+    "close_zone": [0, *range(2, 9), 25],
     "read_hour_file": [0, *range(13, 18)],
     "write_hour_file": [0, 18, 19],
 }
 
 
 def record(numbers):
-    users, length, h_hours, h_closed, l_hours, l_closed = numbers
-    return Day(users, length, ZoneDay(h_hours, h_closed), ZoneDay(l_hours, l_closed))
+    users, length, *zones = numbers
+    return Day(users, length, ZoneDay(*zones[:4]), ZoneDay(*zones[4:]))
 
 
 def answer(call, *arguments, **more):
@@ -54,7 +54,7 @@ class AgainstOrdinary(unittest.TestCase):
     def open_day(self, vector):
         refused = (vector["cause"], "open_day")
         given = vector["users"], vector["length"]
-        opened = State(Day(*given, ZoneDay(0, False), ZoneDay(0, False)), 256 * [0])
+        opened = State(Day(*given, ZoneDay(0, False, 0, 0), ZoneDay(0, False, 0, 0)), 256 * [0])
         self.assertEqual(answer(gas_day.open_day, *given), refused if vector["cause"] else opened)
         if not vector["cause"]:
             self.day = GasDay(*given)

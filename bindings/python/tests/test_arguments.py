@@ -41,6 +41,10 @@ PLACES_OF_AN_HOUR = {
     "record's hours of L": (2, lambda of, x: of(Day(2, 24, ZoneDay(), ZoneDay(x)))),
     "record's mark of H": (2, lambda of, x: of(Day(2, 24, ZoneDay(24, x)))),
     "record's mark of L": (2, lambda of, x: of(Day(2, 24, ZoneDay(), ZoneDay(24, x)))),
+    "what was sold in H": (2, lambda of, x: of(Day(2, 24, ZoneDay(1, False, x)), hour=2)),
+    "what was bought in H": (2, lambda of, x: of(Day(2, 24, ZoneDay(1, False, 0, x)), hour=2)),
+    "what was sold in L": (2, lambda of, x: of(Day(2, 24, ZoneDay(), ZoneDay(1, False, x)))),
+    "what was bought in L": (2, lambda of, x: of(Day(2, 24, ZoneDay(), ZoneDay(1, False, 0, x)))),
     "a place of the table": (7, lambda of, x: of(table=255 * [0] + [x])),
     "an entry": (9, lambda of, x: of(entry=[0, x])),
     "an exit": (9, lambda of, x: of(exit=[x, 0])),
@@ -72,6 +76,8 @@ PLACES = {
     "closing's shortfall price": (8, lambda x: closing_of(prices={"excess_price": 0, "shortfall_price": x})),
     "closing's record": (2, lambda x: closing_of(Day(x, 24, ZoneDay(24)))),
     "length of a closing's record": (2, lambda x: closing_of(Day(2, x, ZoneDay(0)))),
+    "what was sold before a closing": (2, lambda x: closing_of(Day(2, 24, ZoneDay(24, False, x)))),
+    "what was bought before a closing": (2, lambda x: closing_of(Day(2, 24, ZoneDay(24, False, 0, x)))),
     "closing's table": (7, lambda x: closing_of(table=[x] + 255 * [0])),
     "zone of a GasDay's closing": (4, lambda x: GasDay(2, 24).close_zone(x, **PRICES)),
     "zone of positions": (4, lambda x: GasDay(2, 24).positions(x)),
@@ -83,6 +89,8 @@ PLACES = {
     "written pooling amount": (19, lambda x: written(pooling=[x, 0])),
     "resumed record": (0, lambda x: GasDay.resume(State(Day(x, 24), 256 * [0]))),
     "resumed length": (0, lambda x: GasDay.resume(State(Day(2, x), 256 * [0]))),
+    "what was sold, resumed": (0, lambda x: GasDay.resume(State(Day(2, 24, ZoneDay(1, False, x)), 256 * [0]))),
+    "what was bought, resumed": (0, lambda x: GasDay.resume(State(Day(2, 24, ZoneDay(), ZoneDay(1, False, 0, x)), 256 * [0]))),
     "resumed table": (0, lambda x: GasDay.resume(State(Day(2, 24), 255 * [0] + [x]))),
 }
 
@@ -124,6 +132,8 @@ class SingleNumbers(unittest.TestCase):
         for call, words in (
             (lambda: hour_of(exit=[0, 1.0]), r"^exit\[1\] is to be an int, not float$"),
             (lambda: hour_of(Day(2, 24, ZoneDay(), ZoneDay(0, None))), "^day.l.closed is to be an int, not NoneType$"),
+            (lambda: hour_of(Day(2, 24, ZoneDay(1, False, 1.0))), "^day.h.sold is to be an int, not float$"),
+            (lambda: hour_of(Day(2, 24, ZoneDay(), ZoneDay(0, False, 0, "0"))), "^day.l.bought is to be an int, not str$"),
             (lambda: hour_of(Day(2, None)), "^day.length is to be an int, not NoneType$"),
             (lambda: gas_day.open_day(2, 24.0), "^length is to be an int, not float$"),
             (lambda: hour_of(title=None), "^title is to be a list of ints, not NoneType$"),

@@ -9,7 +9,7 @@ import unittest.mock
 from array import array
 
 import gas_day
-from gas_day import Day, GasDay, HourFile, HourPreview, Outcome, Refusal, Side, State, Thresholds, Zone, ZoneDay
+from gas_day import TOTAL_MOST, Day, GasDay, HourFile, HourPreview, Outcome, Refusal, Side, State, Thresholds, Zone, ZoneDay
 from worked import ENTRY, EXIT, FILE_A, FILE_A_IN_MWH, HEADER, NONE, PRICES, WIDE, amounts, case_a, idle_hour, idle_judge, idle_preview
 
 
@@ -18,7 +18,7 @@ class CaseA(unittest.TestCase):
         self.assertEqual(done.outcome, Outcome(Side.EXCESS, 5_000_000, [0, 1]))
         self.assertEqual(done.quantity, [3_333_333, 1_666_667, 0])
         self.assertEqual(done.money, [66_666_660_000, 33_333_340_000, 0])
-        self.assertEqual(done.day, Day(3, 24, ZoneDay(1, False), ZoneDay(0, False)))
+        self.assertEqual(done.day, Day(3, 24, ZoneDay(1, False, 5_000_000, 0), ZoneDay(0, False, 0, 0)))
         self.assertEqual(done.table, [16_666_667, 8_333_333, -3_000_000] + 253 * [0])
         self.assertEqual((day.record, day.state, day.positions(Zone.H)), (done.day, State(done.day, done.table), done.table[:3]))
 
@@ -63,7 +63,7 @@ class CaseA(unittest.TestCase):
 
     def test_by_the_functions(self):
         opened = gas_day.open_day(3, 24)
-        self.assertEqual(opened, State(Day(3, 24, ZoneDay(0, False), ZoneDay(0, False)), 256 * [0]))
+        self.assertEqual(opened, State(Day(3, 24, ZoneDay(0, False, 0, 0), ZoneDay(0, False, 0, 0)), 256 * [0]))
         _, hour, given = case_a()
         lists = {name: list(value) for name, value in given.items() if isinstance(value, list)}
         done = gas_day.settle_hour(opened.day, opened.table, *hour, **given)
@@ -113,7 +113,8 @@ class CaseA(unittest.TestCase):
         done = day.settle_hour(*hour, **given)
         self.assertEqual(
             repr(done),
-            "HourDone(day=Day(users=3, length=24, h=ZoneDay(hours=1, closed=False), l=ZoneDay(hours=0, closed=False)), "
+            "HourDone(day=Day(users=3, length=24, h=ZoneDay(hours=1, closed=False, sold=5000000, bought=0), "
+            "l=ZoneDay(hours=0, closed=False, sold=0, bought=0)), "
             "outcome=Outcome(side=<Side.EXCESS: 1>, total=5000000, causers=[0, 1]), "
             "quantity=[3333333, 1666667, 0], money=[66666660000, 33333340000, 0])",
         )
@@ -146,7 +147,7 @@ class Documentation(unittest.TestCase):
     def test_its_examples(self):
         found = doctest.testmod(gas_day)
         self.assertEqual(found.failed, 0)
-        self.assertGreaterEqual(found.attempted, 27)
+        self.assertGreaterEqual(found.attempted, 29)
 
 
 class WholeDay(unittest.TestCase):
@@ -172,6 +173,7 @@ class WholeDay(unittest.TestCase):
         self.assertEqual(done.quantity, of(at1=3, at64=2, at65=2, at66=2))
         self.assertEqual(done.money, of(at1=60, at64=40, at65=40, at66=40))
         self.assertEqual(day.positions(Zone.H), of(at1=7, at2=-4, at64=8, at65=8, at66=8))
+        self.assertEqual((day.record.h, day.record.l), (ZoneDay(1, False, 9, 0), ZoneDay(0, False, 0, 0)))
         # L: place 0 at -8, place 66 at -4: a market of -12, 6 below -6.
         done = self.settled(
             day, Zone.L, 1, Thresholds(1000, -6), excess_price=20, shortfall_price=25,
@@ -181,6 +183,7 @@ class WholeDay(unittest.TestCase):
         self.assertEqual(done.money, of(at0=-100, at66=-50))
         self.assertEqual(day.positions(Zone.L), of(at0=-4, at66=-2))
         self.assertEqual(day.state.table[128:], day.positions(Zone.L) + 61 * [0])
+        self.assertEqual((day.record.h, day.record.l), (ZoneDay(1, False, 9, 0), ZoneDay(1, False, 0, 6)))
 
     def test_both_zones_to_their_closing(self):
         for length in (23, 24, 25):
@@ -198,7 +201,8 @@ class WholeDay(unittest.TestCase):
                 done = self.settled(day, zone, hour, WIDE, **PRICES, **amounts(67))
                 self.assertEqual(done.outcome, Outcome(Side.WITHIN, 0, []))
                 self.assertEqual(done.quantity, 67 * [0])
-        self.assertEqual(day.record, Day(67, length, ZoneDay(length, False), ZoneDay(length, False)))
+                self.assertEqual(done.day, Day(67, length, ZoneDay(hour, False, 9, 0), ZoneDay(hour - 1 + zone, False, 0, 6)))
+                self.assertEqual(day.record, done.day)
         for idle in (idle_preview, idle_judge, idle_hour):
             with self.assertRaises(Refusal) as refused:
                 idle(day, Zone.H, length + 1)
@@ -208,12 +212,13 @@ class WholeDay(unittest.TestCase):
         self.assertEqual([done.quantity[g] for g in (0, 1, 2, 64, 65, 66)], [0, 7, -4, 8, 8, 8])
         self.assertEqual([done.money[g] for g in (0, 1, 2, 64, 65, 66)], [0, 210, -140, 240, 240, 240])
         self.assertEqual(day.positions(Zone.H), 67 * [0])
+        self.assertEqual((day.record.h, day.record.l), (ZoneDay(length, True, 40, 4), ZoneDay(length, False, 0, 6)))
         self.assertEqual((day.positions(Zone.L)[0], day.positions(Zone.L)[66]), (-4, -2))
         done = day.close_zone(Zone.L, excess_price=30, shortfall_price=-35)
         self.assertEqual((done.sold, done.bought), (0, 6))
         self.assertEqual((done.money[0], done.money[66]), (140, 70))
-        self.assertEqual(day.state, State(Day(67, length, ZoneDay(length, True), ZoneDay(length, True)), 256 * [0]))
-        self.assertEqual(done.table, day.state.table)
+        self.assertEqual(day.state, State(Day(67, length, ZoneDay(length, True, 40, 4), ZoneDay(length, True, 0, 12)), 256 * [0]))
+        self.assertEqual(State(done.day, done.table), day.state)
 
     def test_resumed_it_goes_on(self):
         day = GasDay(67, 24)
@@ -223,6 +228,7 @@ class WholeDay(unittest.TestCase):
         title = {"title": [-3] + 66 * [0]}
         done = idle_hour(day, Zone.L, 2, Thresholds(0, 0), **title)
         self.assertEqual(done.quantity[0], -7)
+        self.assertEqual(done.day.l, ZoneDay(2, False, 0, 15))  # place 66 buys its 2 as well
         for each in copies:
             self.assertEqual(each.state, state)
             self.assertEqual(idle_hour(each, Zone.L, 2, Thresholds(0, 0), **title), done)
@@ -241,7 +247,8 @@ class WholeDay(unittest.TestCase):
             self.assertEqual(each.positions(Zone.H), [5, 0, 0])
 
     def test_an_odd_record_stays_odd(self):
-        for odd in (Day(3, 24, ZoneDay(24, 2)), Day(3, 24, ZoneDay(25)), Day(3, 22), Day(3, 26), Day(129, 24), Day(-1, 24)):
+        totals = (Day(3, 24, ZoneDay(1, False, -1)), Day(3, 24, ZoneDay(0, False, 0, 1)), Day(3, 24, ZoneDay(), ZoneDay(1, False, 7, TOTAL_MOST + 1)))
+        for odd in (*totals, Day(3, 24, ZoneDay(24, 2)), Day(3, 24, ZoneDay(25)), Day(3, 22), Day(3, 26), Day(129, 24), Day(-1, 24)):
             day = GasDay.resume(State(odd, list(range(256))))
             with self.assertRaises(Refusal) as refused:
                 idle_hour(day, Zone.L, 1)
@@ -255,6 +262,15 @@ class WholeDay(unittest.TestCase):
         old.__dict__.update(users=1, h=ZoneDay(1, False), l=ZoneDay(0, False))  # as pickle would
         for call in (lambda: GasDay.resume(State(old, 256 * [0])), lambda: gas_day.close_zone(old, 256 * [0], Zone.H, **PRICES)):
             self.assertRaisesRegex(AttributeError, "'Day' object has no attribute 'length'", call)
+
+    def test_a_record_of_an_older_module_has_no_totals(self):
+        """It is not taken for one of zeros."""
+        old, half = ZoneDay.__new__(ZoneDay), ZoneDay.__new__(ZoneDay)
+        old.__dict__.update(hours=24, closed=False)  # as pickle would
+        half.__dict__.update(hours=24, closed=False, sold=0)
+        for day, lacks in ((Day(1, 24, old), "sold"), (Day(1, 24, ZoneDay(), old), "sold"), (Day(1, 24, half), "bought")):
+            for call in (lambda: GasDay.resume(State(day, 256 * [0])), lambda: gas_day.close_zone(day, 256 * [0], Zone.H, **PRICES)):
+                self.assertRaisesRegex(AttributeError, f"'ZoneDay' object has no attribute '{lacks}'", call)
 
     def test_a_resumed_record_is_of_plain_numbers(self):
         class Changes:
@@ -314,7 +330,7 @@ class Turns(unittest.TestCase):
     def test_of_two_closings_one_is_refused(self):
         day = GasDay.resume(State(Day(1, 24, ZoneDay(24)), [5] + 255 * [0]))
         numbers = self.second_while_the_first_is_under_way(day, "gas_day_close_zone", lambda: day.close_zone(Zone.H, **PRICES))
-        self.assertEqual((numbers, day.record.h), ([5], ZoneDay(24, True)))
+        self.assertEqual((numbers, day.record.h), ([5], ZoneDay(24, True, 5, 0)))
 
     def test_a_preview_waits_for_no_hour(self):
         """It shows its hour on the day as it stands, which the hour that is under way has not changed."""

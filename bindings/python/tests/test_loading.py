@@ -92,7 +92,7 @@ class Loading(unittest.TestCase):
         self.assertRegex(imported(MODULE, GAS_DAY_LIBRARY=library), "^ImportError: the gas_day library cannot be loaded: .*gas_day_version")
 
     def test_an_older_library_of_this_version(self):
-        """Each lacks one call, whatever else it has."""
+        """Each lacks one call, whatever else it has, as an older library lacks a call that is added to this version."""
         calls = list(gas_day._CALLS)
         for number, lacking in enumerate(calls):
             others = "".join(f"void {call}(void) {{}} " for call in calls if call != lacking)

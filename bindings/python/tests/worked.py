@@ -3,6 +3,7 @@
 from functools import partial
 
 from gas_day import (
+    TOTAL_MOST,
     Day,
     GasDay,
     Thresholds,
@@ -98,6 +99,18 @@ REFUSED_HOURS = [
     (2, lambda of: of(Day(2, 25, ZoneDay(), ZoneDay(24, True)))),
     (2, lambda of: of(Day(2, 24, ZoneDay(), ZoneDay(23, True)))),
     (2, lambda of: of(Day(2, 24, ZoneDay(24, 2)), zone=Zone.L)),
+    (2, lambda of: of(Day(2, 24, ZoneDay(sold=1)))),
+    (2, lambda of: of(Day(2, 24, ZoneDay(bought=1)))),
+    (2, lambda of: of(Day(2, 24, ZoneDay(), ZoneDay(sold=1)))),
+    (2, lambda of: of(Day(2, 24, ZoneDay(), ZoneDay(bought=TOTAL_MOST)))),
+    (2, lambda of: of(Day(2, 24, ZoneDay(1, sold=-1)), hour=2)),
+    (2, lambda of: of(Day(2, 24, ZoneDay(1, bought=-1)), hour=2)),
+    (2, lambda of: of(Day(2, 24, ZoneDay(), ZoneDay(1, sold=-1)))),
+    (2, lambda of: of(Day(2, 24, ZoneDay(), ZoneDay(1, bought=-1)))),
+    (2, lambda of: of(Day(2, 24, ZoneDay(1, sold=TOTAL_MOST + 1)), hour=2)),
+    (2, lambda of: of(Day(2, 24, ZoneDay(1, bought=TOTAL_MOST + 1)), hour=2)),
+    (2, lambda of: of(Day(2, 24, ZoneDay(), ZoneDay(1, sold=TOTAL_MOST + 1)))),
+    (2, lambda of: of(Day(2, 24, ZoneDay(), ZoneDay(1, bought=TOTAL_MOST + 1)))),
     (3, lambda of: of(table=[0] * 255)),
     (3, lambda of: of(table=[])),
     (3, lambda of: of(entry=[0, 0, 0])),
@@ -123,6 +136,14 @@ REFUSED_HOURS = [
     (9, lambda of: of(pooling=[-100_000_001, 100_000_001])),
     (10, lambda of: of(pooling=[1, 0])),
     (11, lambda of: of(entry=[50_000_000, 0], title=[50_000_000, 0], pooling=[1, -1])),
+]
+
+# Number, and the call, hour_of or preview_of, that would bring a total past its bound. A judge adds nothing.
+REFUSED_TOTALS = [
+    (25, lambda of: of(Day(2, 24, ZoneDay(1, sold=TOTAL_MOST - 4)), hour=2, entry=[5, 0])),
+    (25, lambda of: of(Day(2, 24, ZoneDay(1, bought=TOTAL_MOST)), hour=2, exit=[0, -1])),
+    (25, lambda of: of(Day(2, 24, ZoneDay(), ZoneDay(1, sold=TOTAL_MOST)), zone=Zone.L, hour=2, title=[0, 1])),
+    (25, lambda of: of(Day(2, 24, ZoneDay(), ZoneDay(1, bought=TOTAL_MOST - 1)), zone=Zone.L, hour=2, title=[-2, 0])),
 ]
 
 # Number, and quantities for case A's hour.
@@ -159,6 +180,8 @@ REFUSED = [
     *((number, "settle_hour", partial(call, hour_of)) for number, call in REFUSED_HOURS),
     *((number, "preview_hour", partial(call, preview_of)) for number, call in REFUSED_HOURS),
     *((number, "judge_hour", partial(call, judge_of)) for number, call in REFUSED_HOURS),
+    *((number, "settle_hour", partial(call, hour_of)) for number, call in REFUSED_TOTALS),
+    *((number, "preview_hour", partial(call, preview_of)) for number, call in REFUSED_TOTALS),
     *((number, "judge_hour", partial(case_a_judged, quantity)) for number, quantity in REFUSED_QUANTITIES),
     (22, "judge_hour", lambda: judge_of(quantity=[1, -1])),
     (23, "judge_hour", lambda: judge_of(entry=[4, 2], thresholds=Thresholds(3, 0), quantity=[3, 0])),
@@ -169,10 +192,16 @@ REFUSED = [
     (5, "close_zone", lambda: closing_of(Day(2, 24, ZoneDay(24, True)))),
     (2, "close_zone", lambda: closing_of(Day(2, 22, ZoneDay(22)))),
     (2, "close_zone", lambda: closing_of(Day(2, 23, ZoneDay(24)))),
+    (2, "close_zone", lambda: closing_of(Day(2, 24, ZoneDay(24), ZoneDay(sold=1)))),
+    (2, "close_zone", lambda: closing_of(Day(2, 24, ZoneDay(24), ZoneDay(bought=1)))),
+    (2, "close_zone", lambda: closing_of(Day(2, 24, ZoneDay(24, sold=-1)))),
+    (2, "close_zone", lambda: closing_of(Day(2, 24, ZoneDay(24, bought=TOTAL_MOST + 1)))),
     (6, "close_zone", lambda: closing_of(zone=Zone.L)),
     (6, "close_zone", lambda: closing_of(Day(2, 25, ZoneDay(24)))),
     (7, "close_zone", lambda: closing_of(table=table_with(128, 1))),
     (8, "close_zone", lambda: closing_of(prices=PRICE_TOO_HIGH)),
+    (25, "close_zone", lambda: closing_of(Day(2, 24, ZoneDay(24, sold=TOTAL_MOST)), table_with(0, 1))),
+    (25, "close_zone", lambda: closing_of(Day(2, 24, ZoneDay(), ZoneDay(24, bought=TOTAL_MOST - 1)), table_with(129, -2), Zone.L)),
     (13, "read_hour_file", lambda: read_hour_file(b"")),
     (14, "read_hour_file", lambda: read_hour_file(HEADER + b"1,H,0,0,0,0\r\n")),
     (15, "read_hour_file", lambda: read_hour_file(HEADER + b"1,h,0,0,0,0,0\r\n")),

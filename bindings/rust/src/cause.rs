@@ -3,8 +3,8 @@ use std::fmt;
 
 /// Why a call was turned away: the first cause that applies, in the order of their numbers, but for 21, which comes after 1 and before 3.
 ///
-/// Its number is `cause as u64` or [`Cause::number`], its words are those of the requirements (of 2, 6 and 21 made of them, since the day has a length; 23 has "a quantity"
-/// for their "one"), and it prints as both.
+/// Its number is `cause as u64` or [`Cause::number`], its words are those of the requirements (of 2, 6 and 21 made of them, since the day has a length and totals; 23 has
+/// "a quantity" for their "one"), and it prints as both.
 ///
 /// ```
 /// use gas_day::Cause;
@@ -19,7 +19,8 @@ use std::fmt;
 pub enum Cause {
     /// Opening: user count not 1 to 128.
     Users = 1,
-    /// Record's user count not 1 to 128, length not 23, 24 or 25, hours not 0 to the length, or a zone closed with fewer than the length; or `closed` not 0 or 1.
+    /// Record's user count not 1 to 128, length not 23, 24 or 25, hours not 0 to the length, a zone closed with fewer than the length, a zone with no hours done whose
+    /// totals are not zero, or a total below zero or above 332,800,000,000; or `closed` not 0 or 1.
     Record = 2,
     /// Table not of 256 places, or a list or the scratch not of exactly the user count.
     Length = 3,
@@ -66,6 +67,8 @@ pub enum Cause {
     JudgedShare = 23,
     /// The sum is wrong.
     JudgedSum = 24,
+    /// A total would pass the bound.
+    Totals = 25,
 }
 
 impl Cause {
@@ -95,6 +98,7 @@ impl Cause {
         Cause::JudgedSign,
         Cause::JudgedShare,
         Cause::JudgedSum,
+        Cause::Totals,
     ];
 
     /// The cause's number in the requirements.
@@ -117,7 +121,10 @@ impl Cause {
     pub const fn words(self) -> &'static str {
         match self {
             Cause::Users => "opening: user count not 1 to 128",
-            Cause::Record => "record's user count not 1 to 128, length not 23, 24 or 25, hours not 0 to the length, or a zone closed with fewer than the length",
+            Cause::Record => concat!(
+                "record's user count not 1 to 128, length not 23, 24 or 25, hours not 0 to the length, a zone closed with fewer than the length, ",
+                "a zone with no hours done whose totals are not zero, or a total below zero or above 332,800,000,000"
+            ),
             Cause::Length => "table not of 256 places, or a list or the scratch not of exactly the user count",
             Cause::Zone => "zone not 0 or 1",
             Cause::Closed => "zone closed",
@@ -143,6 +150,7 @@ impl Cause {
             Cause::JudgedSign => "a user who did not cause has a quantity or a causer's has the wrong sign",
             Cause::JudgedShare => "a quantity is 1 kWh or more off",
             Cause::JudgedSum => "the sum is wrong",
+            Cause::Totals => "a total would pass the bound",
         }
     }
 }

@@ -31,7 +31,7 @@
 //! assert_eq!(quantity, [3_333_333, 1_666_667, 0]);
 //! assert_eq!(money, [66_666_660_000, 33_333_340_000, 0]);
 //! assert_eq!(table[..3], [16_666_667, 8_333_333, -3_000_000]);
-//! assert_eq!(day.h.hours, 1);
+//! assert_eq!((day.h.hours, day.h.sold, day.h.bought), (1, 5_000_000, 0));
 //! # Ok(())
 //! # }
 //! ```
@@ -48,9 +48,11 @@ use std::sync::atomic::{AtomicBool, Ordering};
 
 /// The version of the interface that this crate is written for. A library of another version has other structs or other calls, and is not called. A call that is added
 /// leaves the version as it is; with an older library, which lacks it, this crate is not built.
-pub const VERSION: u64 = 2;
+pub const VERSION: u64 = 3;
 
-/// The day record of one zone.
+/// The day record of one zone. Its totals, sold and bought, are 0 at opening. An accepted hour of the zone adds its total to `sold` in an excess and to `bought` in a
+/// shortfall; an accepted closing adds what it sold and bought. An hour, its preview or a closing after which a total of its own zone would be above [`limits::TOTAL_MOST`]
+/// is refused by [`Cause::Totals`], its last cause; a total that reaches this is no cause. Only an altered record can lead past it.
 #[repr(C)]
 #[derive(Clone, Copy, PartialEq, Eq, Hash, Debug, Default)]
 pub struct ZoneDay {
@@ -58,6 +60,10 @@ pub struct ZoneDay {
     pub hours: i64,
     /// Whether the zone is closed: 0 or 1. A record with another number is refused by [`Cause::Record`].
     pub closed: i64,
+    /// What was sold so far, in kWh, as a size: of all accepted hours of the zone and its closing.
+    pub sold: i64,
+    /// What was bought so far, in kWh, as a size: of all accepted hours of the zone and its closing.
+    pub bought: i64,
 }
 
 /// The day record. [`open`] answers one, and every accepted hour and closing brings it forward; table and record belong together.
@@ -193,7 +199,7 @@ pub struct ClosingTerms {
     pub shortfall_price: i64,
 }
 
-/// The two sums of an accepted closing.
+/// The two sums of an accepted closing, by the closing alone.
 #[derive(Clone, Copy, PartialEq, Eq, Hash, Debug)]
 pub struct Sums {
     /// What the users sold, in kWh, as a size.
@@ -290,7 +296,8 @@ pub fn default_thresholds(month: i64, zone: i64) -> Result<Thresholds, Cause> {
 }
 
 /// Settles an hour: fills quantity and money, puts the positions after into the users' places of the zone, sets the scratch to zero and brings the record an hour
-/// forward. The table has 256 places; every list and the scratch has as many as the record has users. Causes 2 to 11; refused, everything lent is as it was, the record too.
+/// forward, with what was sold or bought added to the zone's totals. The table has 256 places; every list and the scratch has as many as the record has users. Causes 2 to
+/// 11, then 25; refused, everything lent is as it was, the record too.
 ///
 /// ```
 /// use gas_day::*;
@@ -308,6 +315,7 @@ pub fn default_thresholds(month: i64, zone: i64) -> Result<Thresholds, Cause> {
 /// let outputs = Outputs { quantity: &mut quantity, money: &mut money };
 /// settle_hour(&mut day, &mut table, first, amounts, outputs, &mut scratch).unwrap();
 /// assert_eq!((quantity, money), ([-5], [-125_000]));
+/// assert_eq!((day.l.sold, day.l.bought), (0, 5));
 /// ```
 pub fn settle_hour(
     day: &mut Day,
@@ -360,7 +368,7 @@ fn outcome(hour: &boundary::Hour) -> Outcome {
 
 /// Shows an hour before it is booked: fills quantity and money and answers what [`settle_hour`] would, puts the users' positions after the hour into `after`, and sets the
 /// scratch to zero. Table and record are only read, so the hour can be previewed with other amounts before it is settled. The table has 256 places; every list and
-/// the scratch has as many as the record has users. Causes 2 to 11, as of an hour; refused, everything lent is as it was.
+/// the scratch has as many as the record has users. Causes 2 to 11, then 25, as of an hour; refused, everything lent is as it was.
 ///
 /// ```
 /// use gas_day::*;
@@ -425,7 +433,7 @@ pub fn preview_hour(
 /// Judges an operator's own quantities for an hour, which may be rounded in another way than those of [`settle_hour`] and still be right; those are accepted too. They have
 /// to add to the excess, or to minus the shortfall, or to zero if there is neither; only causers have any, with the right sign, and each is less than 1 kWh from the exact
 /// share. Everything is only read. The table has 256 places; every list has as many as the record has users. Causes 2 to 11, as of an hour; then 22, 23 and 24, each
-/// looked at for every user before the next.
+/// looked at for every user before the next; not 25, since nothing is added to the record.
 ///
 /// ```
 /// use gas_day::*;
@@ -467,20 +475,20 @@ pub fn judge_hour(day: &Day, table: &[i64], terms: HourTerms, amounts: Amounts<'
 }
 
 /// Closes a zone after all hours of its day: fills quantity and money with each user's whole position and its price, sets the zone's places to zero and marks the zone closed in
-/// the record. Causes 2 to 8; refused, everything lent is as it was, the record too.
+/// the record, with what was sold and bought added to the zone's totals. Causes 2 to 8, then 25; refused, everything lent is as it was, the record too.
 ///
 /// ```
 /// use gas_day::*;
 /// let mut table = [0; limits::TABLE_PLACES];
 /// table[..2].copy_from_slice(&[2, -2]);
-/// let mut day = Day { users: 2, length: 24, h: ZoneDay { hours: 24, closed: 0 }, l: ZoneDay::default() };
+/// let mut day = Day { users: 2, length: 24, h: ZoneDay { hours: 24, sold: 5, ..ZoneDay::default() }, l: ZoneDay::default() };
 /// let (mut quantity, mut money) = ([0; 2], [0; 2]);
 /// let outputs = Outputs { quantity: &mut quantity, money: &mut money };
 /// let terms = ClosingTerms { zone: 0, excess_price: 20_000, shortfall_price: 25_000 };
 /// let closed = close_zone(&mut day, &mut table, terms, outputs).unwrap();
 /// assert_eq!((closed.sold, closed.bought), (2, 2));
 /// assert_eq!(money, [40_000, -50_000]);
-/// assert_eq!(day.h.closed, 1);
+/// assert_eq!(day.h, ZoneDay { hours: 24, closed: 1, sold: 7, bought: 2 });
 /// ```
 pub fn close_zone(day: &mut Day, table: &mut [i64], terms: ClosingTerms, outputs: Outputs<'_>) -> Result<Sums, Cause> {
     look_at_version();

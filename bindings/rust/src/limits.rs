@@ -30,6 +30,8 @@ pub const POSITION_MOST: i64 = 100_000_000;
 pub const THRESHOLD_MOST: i64 = 1_000_000_000;
 /// A price: of either sign.
 pub const PRICE_MOST: i64 = 10_000_000;
+/// What was sold, or bought, in a zone so far: 0 to this.
+pub const TOTAL_MOST: i64 = 332_800_000_000;
 /// Decimals of an amount in MWh, in a file that is read: 12.345 means 12345 kWh.
 pub const FILE_MWH_DECIMALS: usize = 3;
 /// Lent bytes that are enough for every file: 25, and 61 for each of 128 lines.

@@ -1,6 +1,6 @@
 //! Every cause as its error, and that a refused call leaves everything lent as it was.
 
-use gas_day::limits::{FILE_PLACES, TABLE_PLACES, WRITE_BYTES_MOST};
+use gas_day::limits::{FILE_PLACES, TABLE_PLACES, TOTAL_MOST, WRITE_BYTES_MOST, ZONE_PLACES};
 use gas_day::*;
 use std::fmt::Debug;
 
@@ -17,12 +17,12 @@ struct Call {
     scratch: Vec<u64>,
 }
 
-/// Hour 2 of the H zone, whose users stand at 5 and -2; it is accepted.
+/// Hour 2 of the H zone, whose users stand at 5 and -2 and come to 9 and -6; it is accepted, and 3 are sold.
 fn fit() -> Call {
     let mut table = vec![0; TABLE_PLACES];
     table[..2].copy_from_slice(&[5, -2]);
     Call {
-        day: Day { users: 2, length: 24, h: ZoneDay { hours: 1, closed: 0 }, l: ZoneDay::default() },
+        day: Day { users: 2, length: 24, h: ZoneDay { hours: 1, ..ZoneDay::default() }, l: ZoneDay::default() },
         table,
         terms: HourTerms { zone: 0, hour: 2, upper: 0, lower: 0, excess_price: 20, shortfall_price: 25 },
         amounts: [vec![1, 0], vec![0, -1], vec![0, 0], vec![3, -3]],
@@ -38,7 +38,14 @@ fn fit_judged() -> Call {
     Call { quantity: vec![3, 0], ..fit() }
 }
 
-/// The same after the last hour, to be closed.
+/// The same with a shortfall: both users come to -1, and 1 is bought.
+fn fit_shortfall() -> Call {
+    let mut call = fit();
+    (call.table[0], call.table[1], call.terms.lower) = (-5, 3, -1);
+    call
+}
+
+/// The same after the last hour, to be closed: 5 are sold and 2 bought.
 fn fit_closing() -> Call {
     let mut call = fit();
     call.day.h.hours = 24;
@@ -84,7 +91,7 @@ const SHARED: [Spoilt; 24] = [
     (Cause::Record, |call| call.day.length = i64::MIN),
     (Cause::Record, |call| call.day.h.hours = 25),
     (Cause::Record, |call| (call.day.length, call.day.l.hours) = (23, 24)),
-    (Cause::Record, |call| (call.day.length, call.day.l) = (25, ZoneDay { hours: 24, closed: 1 })),
+    (Cause::Record, |call| (call.day.length, call.day.l) = (25, ZoneDay { hours: 24, closed: 1, ..ZoneDay::default() })),
     (Cause::Record, |call| call.day.l.hours = -1),
     (Cause::Record, |call| call.day.l.closed = 1),
     (Cause::Record, |call| call.day.h.closed = 2),
@@ -100,7 +107,31 @@ const SHARED: [Spoilt; 24] = [
     (Cause::Table, |call| call.table[128] = -1),
     (Cause::Terms, |call| call.terms.excess_price = limits::PRICE_MOST + 1),
     (Cause::Terms, |call| call.terms.shortfall_price = -limits::PRICE_MOST - 1),
-    (Cause::Closed, |call| call.day.h = ZoneDay { hours: 24, closed: 1 }),
+    (Cause::Closed, |call| call.day.h = ZoneDay { hours: 24, closed: 1, ..ZoneDay::default() }),
+];
+
+/// Of all of these: totals that no record has. The L zone has no hours done.
+const TOTALS: [Spoilt; 20] = [
+    (Cause::Record, |call| (call.day.h.hours, call.day.h.sold, call.day.h.bought) = (0, 1, 0)),
+    (Cause::Record, |call| (call.day.h.hours, call.day.h.sold, call.day.h.bought) = (0, 0, 1)),
+    (Cause::Record, |call| call.day.l.sold = 1),
+    (Cause::Record, |call| call.day.l.bought = 1),
+    (Cause::Record, |call| call.day.l.sold = TOTAL_MOST),
+    (Cause::Record, |call| call.day.l.bought = -1),
+    (Cause::Record, |call| call.day.h.sold = -1),
+    (Cause::Record, |call| call.day.h.sold = i64::MIN),
+    (Cause::Record, |call| call.day.h.bought = -1),
+    (Cause::Record, |call| call.day.h.bought = i64::MIN),
+    (Cause::Record, |call| call.day.h.sold = TOTAL_MOST + 1),
+    (Cause::Record, |call| call.day.h.sold = i64::MAX),
+    (Cause::Record, |call| call.day.h.bought = TOTAL_MOST + 1),
+    (Cause::Record, |call| call.day.h.bought = i64::MAX),
+    (Cause::Record, |call| (call.day.l.hours, call.day.l.sold) = (1, -1)),
+    (Cause::Record, |call| (call.day.l.hours, call.day.l.bought) = (1, -1)),
+    (Cause::Record, |call| (call.day.l.hours, call.day.l.sold) = (1, TOTAL_MOST + 1)),
+    (Cause::Record, |call| (call.day.l.hours, call.day.l.bought) = (1, TOTAL_MOST + 1)),
+    (Cause::Record, |call| (call.day.h.sold, call.quantity) = (-1, vec![77; 3])), // before a length
+    (Cause::Record, |call| (call.day.l.bought, call.terms.zone) = (1, 2)),        // before the zone
 ];
 
 /// Of all of these but judges, which are lent no money list.
@@ -167,32 +198,120 @@ const JUDGES: [Spoilt; 24] = [
     (Cause::JudgedSum, |call| (call.table[0], call.table[1], call.terms.lower, call.quantity) = (-5, 3, -1, vec![0, 0])),
 ];
 
-/// A call that is accepted is refused by its cause in each of these ways, and leaves everything as it was.
+/// A call that is accepted is refused by its cause in each of these ways, and leaves everything as it was. So it is where its zone's totals are at the bound: cause 25
+/// comes last.
 fn refused<T: PartialEq + Debug>(fit: fn() -> Call, make: fn(&mut Call) -> Result<T, Cause>, ways: &[&[Spoilt]]) {
     assert!(make(&mut fit()).is_ok());
     for (number, (cause, spoil)) in ways.iter().copied().flatten().enumerate() {
-        let mut call = fit();
-        spoil(&mut call);
+        for total in [0, TOTAL_MOST] {
+            let mut call = fit();
+            (call.day.h.sold, call.day.h.bought) = (total, total);
+            spoil(&mut call);
+            let before = call.clone();
+            assert_eq!(make(&mut call), Err(*cause), "way {number}");
+            assert_eq!(call, before, "way {number}");
+        }
+    }
+}
+
+/// What was sold and what was bought in a zone.
+type Totals = (i64, i64);
+
+/// The totals of the call's own zone before it; and after it, if it is accepted, else it is refused by cause 25.
+type Ends = (Totals, Option<Totals>);
+
+/// Of an hour that sells 3.
+const SELLS: [Ends; 5] = [
+    ((0, 0), Some((3, 0))),
+    ((TOTAL_MOST - 4, 1), Some((TOTAL_MOST - 1, 1))),
+    ((TOTAL_MOST - 3, TOTAL_MOST), Some((TOTAL_MOST, TOTAL_MOST))),
+    ((TOTAL_MOST - 2, 0), None),
+    ((TOTAL_MOST, TOTAL_MOST), None),
+];
+
+/// Of an hour that buys 1.
+const BUYS: [Ends; 4] = [
+    ((0, 0), Some((0, 1))),
+    ((1, TOTAL_MOST - 2), Some((1, TOTAL_MOST - 1))),
+    ((TOTAL_MOST, TOTAL_MOST - 1), Some((TOTAL_MOST, TOTAL_MOST))),
+    ((0, TOTAL_MOST), None),
+];
+
+/// Of a closing that sells 5 and buys 2.
+const CLOSES: [Ends; 7] = [
+    ((0, 0), Some((5, 2))),
+    ((TOTAL_MOST - 5, 0), Some((TOTAL_MOST, 2))),
+    ((0, TOTAL_MOST - 2), Some((5, TOTAL_MOST))),
+    ((TOTAL_MOST - 5, TOTAL_MOST - 2), Some((TOTAL_MOST, TOTAL_MOST))),
+    ((TOTAL_MOST - 4, 0), None),
+    ((0, TOTAL_MOST - 1), None),
+    ((TOTAL_MOST, TOTAL_MOST), None),
+];
+
+/// The call with such totals of its own zone, in the H zone or moved to the L zone; the other has an hour done, and totals at the bound.
+fn with_totals(fit: fn() -> Call, zone: i64, (sold, bought): Totals) -> Call {
+    let mut call = fit();
+    (call.day.h.sold, call.day.h.bought) = (sold, bought);
+    call.day.l = ZoneDay { hours: 1, sold: TOTAL_MOST, bought: TOTAL_MOST, ..ZoneDay::default() };
+    if zone == 1 {
+        (call.day.h, call.day.l, call.terms.zone) = (call.day.l, call.day.h, 1);
+        call.table.rotate_right(ZONE_PLACES);
+    }
+    call
+}
+
+/// The call comes to such ends in either zone: it answers what it does without totals, and in the record changes what `book` does of its own zone; or it leaves everything
+/// as it was.
+fn comes_to<T: PartialEq + Debug>(fit: fn() -> Call, make: fn(&mut Call) -> Result<T, Cause>, ends: &[Ends], book: fn(&mut ZoneDay, Totals)) {
+    for (zone, (totals, after)) in [0, 1].into_iter().flat_map(|zone| ends.iter().map(move |&end| (zone, end))) {
+        let mut call = with_totals(fit, zone, totals);
+        let mut before = call.clone();
+        let answer = make(&mut call);
+        let Some(after) = after else {
+            assert_eq!((answer, call), (Err(Cause::Totals), before));
+            continue;
+        };
+        assert_eq!(answer, make(&mut fit()));
+        book(if zone == 0 { &mut before.day.h } else { &mut before.day.l }, after);
+        assert_eq!(call.day, before.day);
+    }
+}
+
+#[test]
+fn of_totals() {
+    let an_hour = |zone: &mut ZoneDay, (sold, bought)| *zone = ZoneDay { hours: 2, closed: 0, sold, bought };
+    comes_to(fit, Call::settle, &SELLS, an_hour);
+    comes_to(fit_shortfall, Call::settle, &BUYS, an_hour);
+    comes_to(fit, Call::preview, &SELLS, |_, _| ());
+    comes_to(fit_shortfall, Call::preview, &BUYS, |_, _| ());
+    comes_to(fit_closing, Call::close, &CLOSES, |zone, (sold, bought)| *zone = ZoneDay { hours: 24, closed: 1, sold, bought });
+}
+
+/// A judge adds nothing, and is refused by no total that a record may have.
+#[test]
+fn not_of_a_judge() {
+    for (zone, (totals, _)) in [0, 1].into_iter().flat_map(|zone| SELLS.map(|end| (zone, end))) {
+        let mut call = with_totals(fit_judged, zone, totals);
         let before = call.clone();
-        assert_eq!(make(&mut call), Err(*cause), "way {number}");
-        assert_eq!(call, before, "way {number}");
+        assert_eq!(call.judge(), Ok(()));
+        assert_eq!(call, before);
     }
 }
 
 #[test]
 fn of_an_hour() {
-    refused(fit, Call::settle, &[&SHARED, &MONEY, &SCRATCH, &HOURS]);
+    refused(fit, Call::settle, &[&SHARED, &TOTALS, &MONEY, &SCRATCH, &HOURS]);
 }
 
 #[test]
 fn of_a_preview() {
-    refused(fit, Call::preview, &[&SHARED, &MONEY, &SCRATCH, &HOURS, &PREVIEWS]);
+    refused(fit, Call::preview, &[&SHARED, &TOTALS, &MONEY, &SCRATCH, &HOURS, &PREVIEWS]);
 }
 
 #[test]
 fn of_a_judge() {
-    refused(fit_judged, Call::judge, &[&SHARED, &HOURS, &JUDGES]);
-    for (cause, spoil) in SHARED.iter().chain(&HOURS) {
+    refused(fit_judged, Call::judge, &[&SHARED, &TOTALS, &HOURS, &JUDGES]);
+    for (cause, spoil) in SHARED.iter().chain(&TOTALS).chain(&HOURS) {
         let mut call = fit(); // whose quantities would be refused too
         spoil(&mut call);
         assert_eq!(call.judge(), Err(*cause));
@@ -203,7 +322,7 @@ fn of_a_judge() {
 #[test]
 fn of_a_closing() {
     let early: [Spoilt; 2] = [(Cause::Hour, |call| call.day.h.hours = 23), (Cause::Hour, |call| call.day.length = 25)];
-    refused(fit_closing, Call::close, &[&SHARED, &MONEY, &early]);
+    refused(fit_closing, Call::close, &[&SHARED, &TOTALS, &MONEY, &early]);
 }
 
 #[test]
@@ -328,13 +447,13 @@ fn of_a_writing() {
 
 #[test]
 fn by_number_and_words() {
-    assert_eq!(Cause::ALL.len(), 24);
+    assert_eq!(Cause::ALL.len(), 25);
     for (number, &cause) in (1..).zip(Cause::ALL) {
         assert_eq!((cause.number(), cause as u64), (number, number));
         assert_eq!(Cause::of(number), Some(cause));
         assert_eq!(cause.to_string(), format!("cause {number}: {}", cause.words()));
     }
-    for number in [0, 25, 257, 1 << 32 | 1, u64::MAX] {
+    for number in [0, 26, 257, 1 << 32 | 1, u64::MAX] {
         assert_eq!(Cause::of(number), None);
     }
     let error: Box<dyn std::error::Error> = Cause::Pooling.into();

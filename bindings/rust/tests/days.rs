@@ -9,6 +9,10 @@ fn terms(zone: i64, hour: i64, thresholds: Thresholds) -> HourTerms {
     HourTerms { zone, hour, upper: thresholds.upper, lower: thresholds.lower, excess_price: 20, shortfall_price: 25 }
 }
 
+fn zone_day(hours: i64, closed: i64, sold: i64, bought: i64) -> ZoneDay {
+    ZoneDay { hours, closed, sold, bought }
+}
+
 /// Reads a file into lists that hold something else.
 fn read(file: &[u8]) -> (HourFile, [[i64; FILE_PLACES]; 4]) {
     let mut lists = [[77; FILE_PLACES]; 4];
@@ -44,7 +48,7 @@ fn case_a_by_its_file() {
     assert_eq!(scratch, [0; 3]);
     assert_eq!(table[..3], [16_666_667, 8_333_333, -3_000_000]);
     assert_eq!(table[3..], [0; 253]);
-    assert_eq!(day, Day { users: 3, length: 24, h: ZoneDay { hours: 1, closed: 0 }, l: ZoneDay::default() });
+    assert_eq!(day, Day { users: 3, length: 24, h: zone_day(1, 0, 5_000_000, 0), l: zone_day(0, 0, 0, 0) });
 }
 
 #[test]
@@ -188,6 +192,7 @@ impl Worked {
         assert_eq!(self.quantity, only([(1, 3), (64, 2), (65, 2), (66, 2)]));
         assert_eq!(self.money, only([(1, 60), (64, 40), (65, 40), (66, 40)]));
         assert_eq!(self.table[..USERS], only([(1, 7), (2, -4), (64, 8), (65, 8), (66, 8)]));
+        assert_eq!((self.day.h, self.day.l), (zone_day(1, 0, 9, 0), zone_day(0, 0, 0, 0)));
     }
 
     /// Place 0 at -8, place 66 at -4: a market of -12, 6 below -6.
@@ -199,6 +204,7 @@ impl Worked {
         assert_eq!(self.quantity, only([(0, -4), (66, -2)]));
         assert_eq!(self.money, only([(0, -100), (66, -50)]));
         assert_eq!(self.table[ZONE_PLACES..ZONE_PLACES + USERS], only([(0, -4), (66, -2)]));
+        assert_eq!((self.day.h, self.day.l), (zone_day(1, 0, 9, 0), zone_day(1, 0, 0, 6)));
     }
 }
 
@@ -218,6 +224,7 @@ fn worked_day(length: i64) {
             assert_eq!(worked.close(zone, 0, 0), Err(Cause::Hour));
             assert_eq!(worked.hour(terms(zone, hour, WIDE), [only([]); 4]), Ok(Outcome::Within));
             assert_eq!(worked.quantity, only([]));
+            assert_eq!((worked.day.h, worked.day.l), (zone_day(hour, 0, 9, 0), zone_day(hour - 1 + zone, 0, 0, 6)));
         }
     }
     assert_eq!(worked.hour(terms(0, length + 1, WIDE), [only([]); 4]), Err(Cause::Hour));
@@ -226,11 +233,36 @@ fn worked_day(length: i64) {
     assert_eq!(worked.money, only([(1, 210), (2, -140), (64, 240), (65, 240), (66, 240)]));
     assert_eq!(worked.table[..ZONE_PLACES], [0; ZONE_PLACES]);
     assert_eq!(worked.table[ZONE_PLACES], -4);
+    assert_eq!((worked.day.h, worked.day.l), (zone_day(length, 1, 40, 4), zone_day(length, 0, 0, 6)));
     assert_eq!(worked.close(1, 30, -35), Ok(Sums { sold: 0, bought: 6 }));
     assert_eq!(worked.money, only([(0, 140), (66, 70)]));
     assert_eq!(worked.table, [0; TABLE_PLACES]);
-    let closed = ZoneDay { hours: length, closed: 1 };
-    assert_eq!(worked.day, Day { users: USERS as i64, length, h: closed, l: closed });
+    assert_eq!(worked.day, Day { users: USERS as i64, length, h: zone_day(length, 1, 40, 4), l: zone_day(length, 1, 0, 12) });
+}
+
+/// Every user comes to the largest position in every hour of the longest day, in the L zone with the other sign, and all is settled but what the wide thresholds of the last
+/// hour leave to the closing: 25 times 12,800,000,000 are sold in the one zone and bought in the other. No hour and no closing is refused by cause 25.
+#[test]
+fn the_largest_totals() {
+    let mut table = [0; TABLE_PLACES];
+    let mut day = open(128, limits::LENGTH_MOST, &mut table).unwrap();
+    let (up, down) = ([limits::ENTRY_MOST; 128], [limits::EXIT_LEAST; 128]);
+    let amounts =
+        [Amounts { entry: &up, exit: &[0; 128], title: &up, pooling: &[0; 128] }, Amounts { entry: &[0; 128], exit: &down, title: &down, pooling: &[0; 128] }];
+    let (mut quantity, mut money) = ([0; 128], [0; 128]);
+    for hour in 1..=limits::LENGTH_MOST {
+        let thresholds = if hour < limits::LENGTH_MOST { Thresholds { upper: 0, lower: 0 } } else { WIDE };
+        for zone in [0, 1] {
+            let outputs = Outputs { quantity: &mut quantity, money: &mut money };
+            settle_hour(&mut day, &mut table, terms(zone, hour, thresholds), amounts[zone as usize], outputs, &mut [0; 128]).unwrap();
+        }
+    }
+    assert_eq!((day.h, day.l), (zone_day(25, 0, 319_000_000_000, 0), zone_day(25, 0, 0, 319_000_000_000)));
+    for zone in [0, 1] {
+        let outputs = Outputs { quantity: &mut quantity, money: &mut money };
+        close_zone(&mut day, &mut table, ClosingTerms { zone, excess_price: 0, shortfall_price: 0 }, outputs).unwrap();
+    }
+    assert_eq!((day.h, day.l), (zone_day(25, 1, 320_000_000_000, 0), zone_day(25, 1, 0, 320_000_000_000)));
 }
 
 #[test]
@@ -241,7 +273,7 @@ fn the_last_hour_of_the_most_users() {
     assert_eq!((entries, exits), ([50_000_000; 128], [0; 128]));
     assert_eq!((titles[127], poolings[127]), (127, -127));
 
-    let mut day = Day { users: 128, length: limits::LENGTH_USUAL, h: ZoneDay::default(), l: ZoneDay { hours: 23, closed: 0 } };
+    let mut day = Day { users: 128, length: limits::LENGTH_USUAL, h: ZoneDay::default(), l: ZoneDay { hours: 23, ..ZoneDay::default() } };
     let (mut table, mut quantity, mut money) = ([0; TABLE_PLACES], [77; 128], [77; 128]);
     let amounts = Amounts { entry: &entries, exit: &exits, title: &[0; 128], pooling: &[0; 128] };
     let outputs = Outputs { quantity: &mut quantity, money: &mut money };
@@ -256,7 +288,7 @@ fn the_last_hour_of_the_most_users() {
     let causers = Causers { first: u64::MAX, second: u64::MAX, number: 128 };
     assert_eq!(outcome, Outcome::Settled { side: Side::Excess, total: 6_400_000_000, causers });
     assert_eq!((quantity, money), ([50_000_000; 128], [1_000_000_000; 128]));
-    assert_eq!(day.l.hours, 24);
+    assert_eq!((day.h, day.l), (zone_day(0, 0, 0, 0), zone_day(24, 0, 6_400_000_000, 0)));
     assert!(causers.places().eq(0..128));
     assert!(!causers.has(128) && !causers.has(usize::MAX));
 }

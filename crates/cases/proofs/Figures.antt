@@ -8,6 +8,7 @@ use Rattle.cases.specs.Cases.{case_a, figures_a, case_b, figures_b, figures_c, f
 use Rattle.cases.specs.Cases.{table_h, case_h, figures_h, figures_k, figures, AllFigures}
 use Rattle.cases.specs.Examples.{example_hour, example_closing, hours_from, zone_calls, zone_causes, whole_day, start, causes, WholeDays, TwelveUsers, Defaults}
 use Rattle.cases.specs.Examples.{judged, whole_shares, short_shares, within_thresholds, JudgedLists}
+use Rattle.cases.specs.Examples.{sells_2, buys_2, closes_at, settled_by, closed_by, TotalsAtTheBound}
 
 pub all_figures : AllFigures
 unfolding
@@ -49,4 +50,23 @@ judged_lists = record {
   any_number = refl;
   least = refl;
   long = refl;
+}
+
+pub totals_at_the_bound : TotalsAtTheBound
+unfolding rules terms_of moved sells_2 buys_2 closes_at settled_by closed_by
+totals_at_the_bound = record {
+  hour_sold = refl;
+  hour_bought = refl;
+  reached = refl;
+  other_side = refl;
+  other_zone = refl;
+  closing_sold = refl;
+  closing_bought = refl;
+  previewed = refl;
+  judged_past_it = refl;
+  after_11 = refl;
+  after_8 = refl;
+  not_begun = refl;
+  below_zero = refl;
+  above = refl;
 }

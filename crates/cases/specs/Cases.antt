@@ -10,7 +10,7 @@ use Rattle.rules.specs.declared.Outcome.TheVariants.{Within, Settled}
 use Rattle.rules.specs.declared.HourDone.{HourDone}
 use Rattle.rules.specs.declared.ClosingDone.{ClosingDone}
 use Rattle.rules.specs.Limits.{length_usual}
-use Rattle.rules.specs.Days.{new_day, part}
+use Rattle.rules.specs.Days.{new_zone_day, new_day, part}
 use Rattle.rules.specs.Thresholds.{upper_default, lower_default}
 use Rattle.rules.specs.Hours.{Hour, Closing, before}
 use Rattle.rules.specs.Answers.{open_table, hour_answer, hour_table, hour_quantity, hour_money, closing_answer, closing_table, closing_quantity, closing_money}
@@ -43,10 +43,10 @@ neg n = neg_ℤ (pos n)
 abbrev pub cases_length : ℤ
 cases_length = pos length_usual
 
--- the record of n users, of whose H zone so many hours are done; nothing was done in the L zone
-abbrev pub day_of : ℕ → ℕ → Bool → Day
-day_of n hours closed =
-    record { users = pos n; length = cases_length; h = record { hours = pos hours; closed = closed }; l = record { hours = pos 0; closed = false } }
+-- the record of n users, of whose H zone so many hours are done and so much was sold and bought; nothing was done in the L zone
+abbrev pub day_of : ℕ → ℕ → Bool → ℕ → ℕ → Day
+day_of n hours closed sold bought =
+    record { users = pos n; length = cases_length; h = record { hours = pos hours; closed = closed; sold = pos sold; bought = pos bought }; l = new_zone_day }
 
 -- an accepted hour within its thresholds, and one that was settled: its side, and the causers of places 0 to 63 with their number
 abbrev pub was_within : Day → Said
@@ -143,7 +143,7 @@ figures_a =
     ∷ hour_figures 3 (opened 3) case_a
     (pos 3_333_333 ∷ pos 1_666_667 ∷ pos 0 ∷ [])
     (pos 16_666_667 ∷ pos 8_333_333 ∷ neg 3_000_000 ∷ [])
-    (was_settled (day_of 3 1 false) (Excess (pos 5_000_000)) 3 2)
+    (was_settled (day_of 3 1 false 5_000_000 0) (Excess (pos 5_000_000)) 3 2)
 
 -- ---- cases B to G, I, J: "Positions are before settlement", so users who stood at zero are moved there
 
@@ -154,37 +154,37 @@ case_b = moved (pos 1 ∷ pos 1 ∷ pos 1 ∷ []) (terms_of 1 (pos 1) (pos 0) (p
 unfoldable pub figures_b : List Figure
 figures_b =
     hour_figures 3 (opened 3) case_b
-    (pos 1 ∷ pos 1 ∷ pos 0 ∷ []) (pos 0 ∷ pos 0 ∷ pos 1 ∷ []) (was_settled (day_of 3 1 false) (Excess (pos 2)) 7 3)
+    (pos 1 ∷ pos 1 ∷ pos 0 ∷ []) (pos 0 ∷ pos 0 ∷ pos 1 ∷ []) (was_settled (day_of 3 1 false 2 0) (Excess (pos 2)) 7 3)
 
 -- "C: -1, -1, -1, lower threshold -1: -1, -1, 0."
 unfoldable pub figures_c : List Figure
 figures_c =
     hour_figures 3 (opened 3) (moved (replicate 3 (neg 1)) (terms_of 1 (pos 0) (neg 1) (pos 0)))
-    (neg 1 ∷ neg 1 ∷ pos 0 ∷ []) (pos 0 ∷ pos 0 ∷ neg 1 ∷ []) (was_settled (day_of 3 1 false) (Shortfall (pos 2)) 7 3)
+    (neg 1 ∷ neg 1 ∷ pos 0 ∷ []) (pos 0 ∷ pos 0 ∷ neg 1 ∷ []) (was_settled (day_of 3 1 false 0 2) (Shortfall (pos 2)) 7 3)
 
 -- "D: one user at 22,000,000, upper threshold 22,000,000: nothing."
 unfoldable pub figures_d : List Figure
 figures_d =
     hour_figures 1 (opened 1) (moved (pos 22_000_000 ∷ []) (terms_of 1 (pos 22_000_000) (pos 0) (pos 0)))
-    (pos 0 ∷ []) (pos 22_000_000 ∷ []) (was_within (day_of 1 1 false))
+    (pos 0 ∷ []) (pos 22_000_000 ∷ []) (was_within (day_of 1 1 false 0 0))
 
 -- "E: the same at 22,000,001: 1."
 unfoldable pub figures_e : List Figure
 figures_e =
     hour_figures 1 (opened 1) (moved (pos 22_000_001 ∷ []) (terms_of 1 (pos 22_000_000) (pos 0) (pos 0)))
-    (pos 1 ∷ []) (pos 22_000_000 ∷ []) (was_settled (day_of 1 1 false) (Excess (pos 1)) 1 1)
+    (pos 1 ∷ []) (pos 22_000_000 ∷ []) (was_settled (day_of 1 1 false 1 0) (Excess (pos 1)) 1 1)
 
 -- "F: 5, -5, thresholds 0: nothing."
 unfoldable pub figures_f : List Figure
 figures_f =
     hour_figures 2 (opened 2) (moved (pos 5 ∷ neg 5 ∷ []) (terms_of 1 (pos 0) (pos 0) (pos 0)))
-    (pos 0 ∷ pos 0 ∷ []) (pos 5 ∷ neg 5 ∷ []) (was_within (day_of 2 1 false))
+    (pos 0 ∷ pos 0 ∷ []) (pos 5 ∷ neg 5 ∷ []) (was_within (day_of 2 1 false 0 0))
 
 -- "G: 5, -2, thresholds 0: 3, 0, leaving 2, -2."
 unfoldable pub figures_g : List Figure
 figures_g =
     hour_figures 2 (opened 2) (moved (pos 5 ∷ neg 2 ∷ []) (terms_of 1 (pos 0) (pos 0) (pos 0)))
-    (pos 3 ∷ pos 0 ∷ []) (pos 2 ∷ neg 2 ∷ []) (was_settled (day_of 2 1 false) (Excess (pos 3)) 1 1)
+    (pos 3 ∷ pos 0 ∷ []) (pos 2 ∷ neg 2 ∷ []) (was_settled (day_of 2 1 false 3 0) (Excess (pos 3)) 1 1)
 
 -- "I: quantity 2 at price -100: money -200."
 unfoldable pub case_i : Hour
@@ -193,13 +193,13 @@ case_i = moved (pos 2 ∷ []) (terms_of 1 (pos 0) (pos 0) (neg 100))
 unfoldable pub figures_i : List Figure
 figures_i =
     record { defined = money 1 (opened 1) case_i; paper = numbers (neg 200 ∷ []) }
-    ∷ hour_figures 1 (opened 1) case_i (pos 2 ∷ []) (pos 0 ∷ []) (was_settled (day_of 1 1 false) (Excess (pos 2)) 1 1)
+    ∷ hour_figures 1 (opened 1) case_i (pos 2 ∷ []) (pos 0 ∷ []) (was_settled (day_of 1 1 false 2 0) (Excess (pos 2)) 1 1)
 
 -- "J: 4, 3, 3, upper threshold 5: 2, 2, 1."
 unfoldable pub figures_j : List Figure
 figures_j =
     hour_figures 3 (opened 3) (moved (pos 4 ∷ pos 3 ∷ pos 3 ∷ []) (terms_of 1 (pos 5) (pos 0) (pos 0)))
-    (pos 2 ∷ pos 2 ∷ pos 1 ∷ []) (pos 2 ∷ pos 1 ∷ pos 2 ∷ []) (was_settled (day_of 3 1 false) (Excess (pos 5)) 7 3)
+    (pos 2 ∷ pos 2 ∷ pos 1 ∷ []) (pos 2 ∷ pos 1 ∷ pos 2 ∷ []) (was_settled (day_of 3 1 false 5 0) (Excess (pos 5)) 7 3)
 
 -- ---- case H, a closing: "H starts from the table", here that of a day with 24 hours done
 
@@ -216,18 +216,18 @@ case_h = record {
 -- "H: closing 2, -2 at 20,000 and 25,000: money 40,000 and -50,000."
 unfoldable pub figures_h : List Figure
 figures_h =
-    let d = day_of 2 24 false in
+    let d = day_of 2 24 false 0 0 in
     record { defined = numbers (closing_money d table_h case_h); paper = numbers (pos 40_000 ∷ neg 50_000 ∷ []) }
     ∷ record { defined = numbers (closing_quantity d table_h case_h); paper = numbers (pos 2 ∷ neg 2 ∷ []) }
     ∷ record { defined = numbers (closing_table d table_h case_h); paper = numbers (replicate 256 (pos 0)) }
-    ∷ record { defined = of_closing (closing_answer d table_h case_h); paper = of_closing (Ok (record { day = day_of 2 24 true; sold = pos 2; bought = pos 2 })) }
+    ∷ record { defined = of_closing (closing_answer d table_h case_h); paper = of_closing (Ok (record { day = day_of 2 24 true 2 2; sold = pos 2; bought = pos 2 })) }
     ∷ []
 
 -- ---- case K goes on from where case B leaves: "K: after B, an hour of zero amounts with thresholds 0: 0, 0, 1."
 unfoldable pub figures_k : List Figure
 figures_k =
     hour_figures 3 (step (opened 3) (hour case_b)) (moved (replicate 3 (pos 0)) (terms_of 2 (pos 0) (pos 0) (pos 0)))
-    (pos 0 ∷ pos 0 ∷ pos 1 ∷ []) (pos 0 ∷ pos 0 ∷ pos 0 ∷ []) (was_settled (day_of 3 2 false) (Excess (pos 1)) 4 1)
+    (pos 0 ∷ pos 0 ∷ pos 1 ∷ []) (pos 0 ∷ pos 0 ∷ pos 0 ∷ []) (was_settled (day_of 3 2 false 3 0) (Excess (pos 1)) 4 1)
 
 unfoldable pub figures : List Figure
 figures =

@@ -1,14 +1,17 @@
--- A whole day of each length with refused calls in it, so that the theorems on histories speak of something; rule 4 among twelve users; the lower defaults; and lists of quantities, judged.
--- Assumes nothing.
-use Rattle.std.specs.Prelude.{◌≡◌, true, Ok, List, [], ◌∷◌, ◌++◌, map, ℕ, ℤ, zero, suc, ◌+◌, ◌-◌, ◌*◌, pos, neg_ℤ, replicate}
+-- A whole day of each length with refused calls in it, so that the theorems on histories speak of something; rule 4 among twelve users; the lower defaults; lists of quantities, judged; and
+-- totals at their bound. Assumes nothing.
+use Rattle.std.specs.Prelude.{◌≡◌, true, false, Ok, List, [], ◌∷◌, ◌++◌, map, ℕ, ℤ, zero, suc, ◌+◌, ◌-◌, ◌*◌, pos, neg_ℤ, replicate}
 use Rattle.largest_remainder.specs.Rule.{settled}
-use Rattle.rules.specs.Days.{new_day}
+use Rattle.rules.specs.declared.Day.{Day}
+use Rattle.rules.specs.declared.ZoneDay.{ZoneDay}
+use Rattle.rules.specs.Limits.{position_most, total_most, price_most}
+use Rattle.rules.specs.Days.{new_zone_day, new_day}
 use Rattle.rules.specs.Thresholds.{lower_default}
 use Rattle.rules.specs.Hours.{Hour, Closing}
-use Rattle.rules.specs.Answers.{open_answer, hour_answer, hour_number, closing_answer, closing_number}
+use Rattle.rules.specs.Answers.{open_answer, hour_answer, hour_number, hour_day, preview_answer, closing_answer, closing_number}
 use Rattle.rules.specs.Judging.{judge_answer, judge_number}
 use Rattle.rules.specs.History.{State, Call, hour, closing, opened, step, run, first_sum, second_sum}
-use Rattle.cases.specs.Cases.{neg, opened as case_opened, terms_of, moved, case_a}
+use Rattle.cases.specs.Cases.{cases_length, neg, opened as case_opened, terms_of, moved, case_a}
 
 -- two users of either zone, with title transfers of 5 and -2 kWh in each hour and an upper threshold of 4
 unfoldable pub example_hour : ℕ → ℕ → Hour
@@ -56,13 +59,17 @@ causes s [] = []
 causes s (hour g ∷ calls) = hour_number (hour_answer s.day s.table g) ∷ causes (step s (hour g)) calls
 causes s (closing g ∷ calls) = closing_number (closing_answer s.day s.table g) ∷ causes (step s (closing g)) calls
 
+-- a zone at the day's end: all of the first user's 5 kWh an hour were sold, at the closing the last of them, and all of the other's 2 kWh bought there
+abbrev pub example_zone : ℕ → ZoneDay
+example_zone n = record { hours = pos n; closed = true; sold = pos (n * 5); bought = pos (n * 2) }
+
 -- the day is opened, its calls answer so, and at its end both zones have n hours done and are closed; of the L zone's calls, the first user's n times 5 kWh are all settled
 pub record WholeDay (n : ℕ) : Type 0 where
   pub begins : open_answer (pos 2) (pos n) (replicate 256 (pos 9)) ≡ Ok (new_day (pos 2) (pos n))
   pub answers : causes (start n) (whole_day n) ≡ zone_causes n ++ zone_causes n
   pub ends :
       (run (start n) (whole_day n)).day
-      ≡ record { users = pos 2; length = pos n; h = record { hours = pos n; closed = true }; l = record { hours = pos n; closed = true } }
+      ≡ record { users = pos 2; length = pos n; h = example_zone n; l = example_zone n }
   pub first_adds : first_sum (pos 1) 0 (start n) (zone_calls n 1) ≡ pos (n * 5)
   pub second_adds : second_sum (pos 1) 0 (start n) (zone_calls n 1) ≡ pos (n * 5)
 
@@ -127,3 +134,64 @@ pub record JudgedLists : Type 0 where
   pub least : judged 3 short_shares (neg 9_223_372_036_854_775_808 ∷ neg 1 ∷ pos 0 ∷ []) ≡ 23
   -- "3 also for that list"
   pub long : map (judged 2 whole_shares) ((pos 2 ∷ []) ∷ (pos 2 ∷ pos 1 ∷ pos 0 ∷ []) ∷ []) ≡ 3 ∷ 3 ∷ []
+
+-- ---- the bound of the totals
+
+-- an altered record: one user, so many hours done in the H zone, so much sold and bought there
+abbrev pub traded : ℕ → ℤ → ℤ → Day
+traded hours sold bought =
+    record { users = pos 1; length = cases_length; h = record { hours = pos hours; closed = false; sold = sold; bought = bought }; l = new_zone_day }
+
+-- the bound, and so much less
+abbrev pub most_less : ℕ → ℤ
+most_less n = pos (total_most - n)
+
+-- the table in which that user has a position
+abbrev pub holding : ℤ → List ℤ
+holding kwh = kwh ∷ replicate 255 (pos 0)
+
+-- an hour that sells 2 kWh, and one that buys 2
+unfoldable pub sells_2 : ℕ → Hour
+sells_2 h = moved (pos 5 ∷ []) (terms_of h (pos 3) (pos 0) (pos 0))
+
+unfoldable pub buys_2 : ℕ → Hour
+buys_2 h = moved (neg 5 ∷ []) (terms_of h (pos 0) (neg 3) (pos 0))
+
+unfoldable pub closes_at : ℤ → Closing
+closes_at price = record { terms = record { zone = pos 0; excess_price = price; shortfall_price = pos 0 }; quantity = pos 9 ∷ []; money = pos 9 ∷ [] }
+
+-- the cause of an hour on an empty table, and of a closing of one position, 0 for none
+unfoldable pub settled_by : Hour → Day → ℕ
+settled_by g d = hour_number (hour_answer d (holding (pos 0)) g)
+
+unfoldable pub closed_by : ℤ → Day → ℕ
+closed_by kwh d = closing_number (closing_answer d (holding kwh) (closes_at (pos 0)))
+
+pub record TotalsAtTheBound : Type 0 where
+  -- "25 .. if a total would pass the bound": with 1 kWh less than the hour sells, and not with as much
+  pub hour_sold : map (λ n. settled_by (sells_2 2) (traded 1 (most_less n) (pos 0))) (3 ∷ 2 ∷ 1 ∷ 0 ∷ []) ≡ 0 ∷ 0 ∷ 25 ∷ 25 ∷ []
+  pub hour_bought : map (λ n. settled_by (buys_2 2) (traded 1 (pos 0) (most_less n))) (3 ∷ 2 ∷ 1 ∷ 0 ∷ []) ≡ 0 ∷ 0 ∷ 25 ∷ 25 ∷ []
+  pub reached : hour_day (hour_answer (traded 1 (most_less 2) (pos 7)) (holding (pos 0)) (sells_2 2)) ≡ traded 2 (most_less 0) (pos 7)
+  -- what is not added to may be at the bound
+  pub other_side :
+      settled_by (sells_2 2) (traded 1 (pos 0) (most_less 0)) ∷ settled_by (buys_2 2) (traded 1 (most_less 0) (pos 0)) ∷ [] ≡ 0 ∷ 0 ∷ []
+  pub other_zone :
+      settled_by (sells_2 1) (record { users = pos 1; length = cases_length; h = new_zone_day; l = record { hours = pos 1; closed = false; sold = most_less 0; bought = most_less 0 } })
+      ≡ 0
+  -- a closing adds both of its sums
+  pub closing_sold : map (λ n. closed_by (pos 2) (traded 24 (most_less n) (pos 0))) (2 ∷ 1 ∷ []) ≡ 0 ∷ 25 ∷ []
+  pub closing_bought : map (λ n. closed_by (neg 2) (traded 24 (pos 0) (most_less n))) (2 ∷ 1 ∷ []) ≡ 0 ∷ 25 ∷ []
+  -- "a preview" too, and the judge not
+  pub previewed :
+      map (λ n. hour_number (preview_answer (traded 1 (most_less n) (pos 0)) (holding (pos 0)) (sells_2 2) (pos 9 ∷ []))) (2 ∷ 1 ∷ []) ≡ 0 ∷ 25 ∷ []
+  pub judged_past_it : judge_number (judge_answer (traded 1 (most_less 1) (pos 0)) (holding (pos 0)) (sells_2 2) (pos 2 ∷ [])) ≡ 0
+  -- "last of all causes": after 11, and after 8
+  pub after_11 : hour_number (hour_answer (traded 1 (most_less 1) (pos 0)) (holding (pos position_most)) (sells_2 2)) ≡ 11
+  pub after_8 : closing_number (closing_answer (traded 24 (most_less 1) (pos 0)) (holding (pos 2)) (closes_at (pos (price_most + 1)))) ≡ 8
+  -- "Cause 2 also covers a zone with no hours done whose totals are not zero,
+  pub not_begun : map (settled_by (sells_2 1)) (traded 0 (pos 1) (pos 0) ∷ traded 0 (pos 0) (pos 1) ∷ traded 0 (pos 0) (pos 0) ∷ []) ≡ 2 ∷ 2 ∷ 0 ∷ []
+  -- and a total below zero or above 332,800,000,000"
+  pub below_zero : map (settled_by (sells_2 2)) (traded 1 (neg 1) (pos 0) ∷ traded 1 (pos 0) (neg 1) ∷ []) ≡ 2 ∷ 2 ∷ []
+  pub above :
+      map (settled_by (sells_2 2)) (traded 1 (pos (total_most + 1)) (pos 0) ∷ traded 1 (pos 0) (pos (total_most + 1)) ∷ traded 1 (pos 0) (pos total_most) ∷ [])
+      ≡ 2 ∷ 2 ∷ 0 ∷ []

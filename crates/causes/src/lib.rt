@@ -1,14 +1,18 @@
 // The causes for turning a call away: for each call the first that applies (of the judge, of those up to 11), in the order of the papers. Every input is accepted, so each test stands
-// behind those that it counts on: the record before the hours, the lengths before the places, the ranges before the sums.
+// behind those that it counts on: the record before the hours, the lengths before the places, the ranges before the sums. Where no cause applies, what the call then goes on with is at hand
+// and is answered: of an hour the market position, of a closing its two sums.
 
 #![tactic(auto)]
 
-ghost use Rattle.std.specs.Prelude.{◌≡◌};
-ghost use Rattle.rules.specs.Hours.{hour_given, inputs_given, closing_given};
-ghost use Rattle.rules.specs.Causes.{zone_open, open_cause, thresholds_cause, inputs_cause, hour_cause, preview_cause, judge_inputs_cause, closing_cause};
-ghost use Rattle.causes.specs.Steps.{four_long, filled_long, hour_lists_long, judge_lists_long, closing_lists_long, Listed};
+ghost use Rattle.std.specs.Prelude.{◌≡◌, true, Ok, length};
+ghost use Rattle.integers.specs.Lists.{sum_ℤ};
+ghost use Rattle.rules.specs.Hours.{hour_given, inputs_given, closing_given, before};
+ghost use Rattle.rules.specs.Refusals.{◌then◌};
+ghost use Rattle.rules.specs.Market.{closing_sums};
+ghost use Rattle.rules.specs.Causes.{day_fit, table_fit, zone_open, open_cause, thresholds_cause, inputs_cause, hour_cause, preview_cause, judge_inputs_cause, closing_cause};
+ghost use Rattle.causes.specs.Steps.{four_long, filled_long, hour_lists_long, judge_lists_long, closing_lists_long, Listed, inputs_and_totals_cause, closing_totals_cause};
 
-use rules::{Amounts, Cause, ClosingTerms, Day, HourTerms, Outputs, require};
+use rules::{Amounts, Cause, ClosingTerms, Day, HourTerms, Outputs, Sums, require};
 
 // ---- opening and default thresholds
 
@@ -75,12 +79,14 @@ fn hour_lists_long(
     table.len() == 256 && four_long(users, amounts) && filled_long(users, outputs, scratch)
 }
 
-// Causes 4 to 11, of what an hour is told. (Inlined, and `hour_cause` too, since more than one call makes them: else a refusal of an hour by 2 to 6 would take 5 ns more.)
+// Causes 4 to 11, of what an hour is told, or else its market position. (Inlined, and `hour_cause` too, since more than one call makes them: else a refusal of an hour by 2 to 6 would take
+// 5 ns more.)
 #[inline(always)]
 #[tactic(auto, unfolding(rules::specs::Causes::inputs_cause))]
-fn inputs_cause(day: Day, table: &[i64], terms: HourTerms, amounts: &Amounts) -> Result<(), Cause>
+fn inputs_cause(day: Day, table: &[i64], terms: HourTerms, amounts: &Amounts) -> Result<i64, Cause>
     requires { Listed day table.now amounts.now }
-    ensures { result ≡ inputs_cause day table.now (inputs_given terms amounts.now) }
+    ensures { result ≡ (inputs_cause day table.now (inputs_given terms amounts.now)
+        then Ok (sum_ℤ (before day table.now (inputs_given terms amounts.now)))) }
 {
     require(ranges::zone_fit(terms.zone), Cause::Zone)?;
     require(zone_open(terms.zone, day), Cause::Closed)?;
@@ -88,6 +94,24 @@ fn inputs_cause(day: Day, table: &[i64], terms: HourTerms, amounts: &Amounts) ->
     require(places::table_fit(day, table), Cause::Table)?;
     require(ranges::terms_fit(terms), Cause::Terms)?;
     amounts::zone_amounts_cause(terms.zone, table, amounts)
+}
+
+// Then cause 25: an hour sells or buys its total, which its market position tells.
+#[inline(always)]
+fn inputs_and_totals_cause(
+    day: Day,
+    table: &[i64],
+    terms: HourTerms,
+    amounts: &Amounts,
+) -> Result<i64, Cause>
+    requires { Listed day table.now amounts.now }
+    ensures { result ≡ inputs_and_totals_cause day table.now (inputs_given terms amounts.now) }
+{
+    let market = inputs_cause(day, table, terms, amounts)?;
+    let sums = totals::hour_sums(terms, market);
+    let bounded = day_record::totals_bounded(terms.zone, sums, day);
+    require(bounded, Cause::Totals)?;
+    Ok(market)
 }
 
 #[inline(always)]
@@ -99,15 +123,15 @@ pub fn hour_cause(
     amounts: &Amounts,
     outputs: &Outputs,
     scratch: &[u64],
-) -> Result<(), Cause>
-    ensures { result ≡ hour_cause day table.now
-        (hour_given terms amounts.now
-        outputs.now scratch.now) }
+) -> Result<i64, Cause>
+    ensures { result ≡ (hour_cause day table.now
+        (hour_given terms amounts.now outputs.now scratch.now)
+        then Ok (sum_ℤ (before day table.now (hour_given terms amounts.now outputs.now scratch.now)))) }
 {
     require(day_record::day_fit(day), Cause::Record)?;
     let long = hour_lists_long(day, table, amounts, outputs, scratch);
     require(long, Cause::Lengths)?;
-    inputs_cause(day, table, terms, amounts)
+    inputs_and_totals_cause(day, table, terms, amounts)
 }
 
 // ---- a preview of an hour
@@ -122,11 +146,11 @@ pub fn preview_cause(
     outputs: &Outputs,
     after: &[i64],
     scratch: &[u64],
-) -> Result<(), Cause>
-    ensures { result ≡ preview_cause day table.now
-        (hour_given terms amounts.now
-        outputs.now scratch.now)
-        after.now }
+) -> Result<i64, Cause>
+    ensures { result ≡ (preview_cause day table.now
+        (hour_given terms amounts.now outputs.now scratch.now)
+        after.now
+        then Ok (sum_ℤ (before day table.now (hour_given terms amounts.now outputs.now scratch.now)))) }
 {
     require(day_record::day_fit(day), Cause::Record)?;
     let users = integers::natural(day.users);
@@ -152,10 +176,11 @@ pub fn judge_inputs_cause(
     terms: HourTerms,
     amounts: &Amounts,
     quantity: &[i64],
-) -> Result<(), Cause>
-    ensures { result ≡ judge_inputs_cause day table.now
+) -> Result<i64, Cause>
+    ensures { result ≡ (judge_inputs_cause day table.now
         (inputs_given terms amounts.now)
-        quantity.now }
+        quantity.now
+        then Ok (sum_ℤ (before day table.now (inputs_given terms amounts.now)))) }
 {
     require(day_record::day_fit(day), Cause::Record)?;
     let lists = judge_lists_long(day, table, amounts, quantity);
@@ -174,15 +199,28 @@ fn closing_lists_long(day: Day, table: &[i64], outputs: &Outputs) -> bool
     table.len() == 256 && outputs.quantity.len() == users && outputs.money.len() == users
 }
 
+// Cause 25, or else the two sums.
+fn closing_totals_cause(day: Day, table: &[i64], terms: ClosingTerms) -> Result<Sums, Cause>
+    requires { (day_fit day ≡ true) × (length table.now ≡ 256) × (table_fit day table.now ≡ true) }
+    ensures { result ≡ closing_totals_cause day table.now terms.zone }
+{
+    let users = integers::natural(day.users);
+    let sums = totals::closing_sums(terms.zone, users, table);
+    let bounded = day_record::totals_bounded(terms.zone, sums, day);
+    require(bounded, Cause::Totals)?;
+    Ok(sums)
+}
+
 #[tactic(auto, using(crate::proofs::Lengths::closing_tabled), unfolding(rules::specs::Causes::closing_cause, rules::specs::Causes::closing_long))]
 pub fn closing_cause(
     day: Day,
     table: &[i64],
     terms: ClosingTerms,
     outputs: &Outputs,
-) -> Result<(), Cause>
-    ensures { result ≡ closing_cause day table.now
-        (closing_given terms outputs.now) }
+) -> Result<Sums, Cause>
+    ensures { result ≡ (closing_cause day table.now
+        (closing_given terms outputs.now)
+        then Ok (closing_sums day table.now (closing_given terms outputs.now))) }
 {
     require(day_record::day_fit(day), Cause::Record)?;
     require(closing_lists_long(day, table, outputs), Cause::Lengths)?;
@@ -191,5 +229,6 @@ pub fn closing_cause(
     require(day_record::all_done(day, terms), Cause::Hour)?;
     require(places::table_fit(day, table), Cause::Table)?;
     let prices = ranges::prices_fit(terms.excess_price, terms.shortfall_price);
-    require(prices, Cause::Terms)
+    require(prices, Cause::Terms)?;
+    closing_totals_cause(day, table, terms)
 }

@@ -14,7 +14,7 @@
 
 ghost use Rattle.largest_remainder.specs.Guarantees.{AddsUp, Accurate, NoMoreThanSize};
 ghost use Rattle.apportionment.specs.Guarantees.{EndsWithTheLast};
-ghost use Rattle.rules.specs.Guarantees.{BeginsAtZero, LengthKept, AcceptedIfFit, Conservation, ClosedIsZero, ClosedIsMarked, Accuracy, OutcomeByThresholds, MarksAreCausers, AsSettlingACopy, AcceptedIfRight, OwnAccepted, AcceptedKeeps};
+ghost use Rattle.rules.specs.Guarantees.{BeginsAtZero, LengthKept, AcceptedIfFit, Conservation, ClosedIsZero, ClosedIsMarked, TotalsAreSums, OnlyAlteredPasses, OwnDayFits, Accuracy, OutcomeByThresholds, MarksAreCausers, AsSettlingACopy, AcceptedIfRight, OwnAccepted, AcceptedKeeps};
 ghost use Rattle.file_guarantees.specs.Guarantees.{ReadIfObeyed, FirstFaultDecides, AcceptedObeys, CauseGiven, SmallNumbers, TwoForms, PointsInAmounts};
 ghost use Rattle.file_guarantees.specs.Examples.{ExamplesComputed, CaseA};
 ghost use Rattle.writer_guarantees.specs.Guarantees.{WrittenIfFit, CauseOfThree, EnoughBytes, RoundTrip, WrittenIsRead, OneText};
@@ -24,7 +24,7 @@ ghost use Rattle.flat.specs.Guarantees.{OddMarkRefused, PreviewKeepsRecord, Judg
 ghost use Rattle.text.specs.Examples.{DecimalsShown};
 ghost use Rattle.report.specs.Examples.{CaseAShown, RefusalShown};
 ghost use Rattle.cases.specs.Cases.{AllFigures};
-ghost use Rattle.cases.specs.Examples.{WholeDays, TwelveUsers, JudgedLists, Defaults};
+ghost use Rattle.cases.specs.Examples.{WholeDays, TwelveUsers, JudgedLists, TotalsAtTheBound, Defaults};
 
 // ---- the initial state
 
@@ -142,6 +142,21 @@ pub fn a_closed_zone_holds_zero()
 #[tactic(auto, using(rules::proofs::Guarantees::closed_is_marked))]
 pub fn a_closed_zone_is_marked_and_no_other()
     ensures { ClosedIsMarked }
+{}
+
+// Document 02: "In a day carried as the conservation rule says, they equal the sums of the positive and of the negative quantities answered since opening." So they begin at zero, too.
+pub fn the_totals_are_the_sums()
+    ensures { TotalsAreSums }
+{}
+
+// Document 02: "Only an altered record can lead past that bound." An altered table cannot.
+pub fn only_an_altered_record_leads_past_the_bound()
+    ensures { OnlyAlteredPasses }
+{}
+
+// On a day passed on as the calls answered it neither 2 nor 7 is any call's cause: the record and the table that they leave are always fit.
+pub fn a_day_of_our_own_is_never_turned_against_us()
+    ensures { OwnDayFits }
 {}
 
 // "Whatever record and table an hour is given, once it is accepted the market after it is neither above the upper nor below the lower of that hour's thresholds, a user who did not cause
@@ -268,6 +283,12 @@ pub fn twelve_users_share_by_fractions()
 #[tactic(auto, using(cases::proofs::Figures::judged_lists))]
 pub fn other_roundings_are_accepted()
     ensures { JudgedLists }
+{}
+
+// Document 02: "25, last of all causes of an hour, a preview and a closing, if a total would pass the bound." Records altered near the bound and beyond it, each just accepted or refused.
+#[tactic(auto, using(cases::proofs::Figures::totals_at_the_bound))]
+pub fn totals_reach_the_bound_and_do_not_pass_it()
+    ensures { TotalsAtTheBound }
 {}
 
 // Document 01: "January to December, upper threshold; the lower one is its negation."

@@ -38,7 +38,7 @@ test_is false true = refl
 test_is false false = refl
 
 abbrev zone_eq : ZoneDay → ZoneDay → Bool
-zone_eq a b = int_eq a.hours b.hours && beq a.closed b.closed
+zone_eq a b = int_eq a.hours b.hours && (beq a.closed b.closed && (int_eq a.sold b.sold && int_eq a.bought b.bought))
 
 pub day_is : (a b : Day)
     → (int_eq a.users b.users && (int_eq a.length b.length && (zone_eq a.h b.h && zone_eq a.l b.l))) ≡ same_day a b
@@ -49,6 +49,10 @@ day_is a b =
       equal_is a.length b.length,
       equal_is a.h.hours b.h.hours,
       equal_is a.l.hours b.l.hours,
+      equal_is a.h.sold b.h.sold,
+      equal_is a.h.bought b.h.bought,
+      equal_is a.l.sold b.l.sold,
+      equal_is a.l.bought b.l.bought,
       test_is a.h.closed b.h.closed,
       test_is a.l.closed b.l.closed,
     )

@@ -5,7 +5,7 @@
 
 ghost use Rattle.std.specs.Prelude.{◌≡◌, pos, get_or, set, take, drop};
 ghost use Rattle.integers.specs.Lists.{every};
-ghost use Rattle.checking.specs.Same.{same_outside, mark_of, zone_by};
+ghost use Rattle.checking.specs.Same.{same_outside, mark_of, zone_by, zone_with, with_totals};
 
 use rules::{Day, ZoneDay};
 
@@ -83,7 +83,7 @@ pub fn all_are<T: PartialEq + Copy>(list: &[T], value: T) -> bool
 
 // ---- the record by numbers
 
-// A zone is closed where its number is not 0.
+// A zone is closed where its number is not 0; nothing was sold or bought in it.
 #[tactic(auto, unfolding(crate::specs::Same::zone_by))]
 fn zone_of(hours: i64, closed: i64) -> ZoneDay
     ensures { result ≡ zone_by hours closed }
@@ -91,6 +91,8 @@ fn zone_of(hours: i64, closed: i64) -> ZoneDay
     ZoneDay {
         hours,
         closed: closed != 0,
+        sold: 0,
+        bought: 0,
     }
 }
 
@@ -114,6 +116,29 @@ pub fn day_of(
         length,
         h: zone_of(h_hours, h_closed),
         l: zone_of(l_hours, l_closed),
+    }
+}
+
+#[tactic(auto, unfolding(crate::specs::Same::zone_with))]
+fn zone_with(zone_day: ZoneDay, sold: i64, bought: i64) -> ZoneDay
+    ensures { result ≡ zone_with zone_day sold bought }
+{
+    ZoneDay {
+        sold,
+        bought,
+        ..zone_day
+    }
+}
+
+// The record with other totals: what was sold and bought in H, then in L.
+#[tactic(auto, unfolding(crate::specs::Same::with_totals))]
+pub fn with_totals(day: Day, h_sold: i64, h_bought: i64, l_sold: i64, l_bought: i64) -> Day
+    ensures { result ≡ with_totals day h_sold h_bought l_sold l_bought }
+{
+    Day {
+        h: zone_with(day.h, h_sold, h_bought),
+        l: zone_with(day.l, l_sold, l_bought),
+        ..day
     }
 }
 

@@ -1,3 +1,2 @@
 -- Why the closing's steps leave what the rules name.
-mod Sizes
 mod Parts

@@ -1,21 +1,13 @@
 -- What the closing of a zone asks and leaves, as its contracts state it. A reader who believes the rules need not believe these. Assumes nothing.
-use Rattle.std.specs.Prelude.{◌≡◌, true, cond, List, ℕ, ◌≤◌, ℤ, pos, neg_ℤ, length, take, replicate}
-use Rattle.std.specs.Int.Signed.{lt_z}
+use Rattle.std.specs.Prelude.{◌≡◌, true, List, ℕ, ◌≤◌, ℤ, pos, length, take, replicate}
 use Rattle.integers.specs.Lists.{every}
 use Rattle.rules.specs.declared.ClosingTerms.{ClosingTerms}
 use Rattle.rules.specs.declared.Outputs.{Outputs}
 use Rattle.rules.specs.Limits.{users_most, position_fit}
 use Rattle.rules.specs.Hours.{Same}
 use Rattle.rules.specs.Days.{part, with_part}
-use Rattle.rules.specs.Market.{moneys, sold, bought}
+use Rattle.rules.specs.Market.{moneys}
 use Rattle.rules.specs.Causes.{prices_fit}
-
--- one quantity's part of the two sums
-unfoldable pub sold_of : ℤ → ℤ
-sold_of q = cond (lt_z (pos 0) q) q (pos 0)
-
-unfoldable pub bought_of : ℤ → ℤ
-bought_of q = cond (lt_z q (pos 0)) (neg_ℤ q) (pos 0)
 
 -- of a zone's part p, with a place for each user
 pub record Asks (p : List ℤ) (k : ClosingTerms) (o : Outputs) : Type 0 where
@@ -26,21 +18,19 @@ pub record Asks (p : List ℤ) (k : ClosingTerms) (o : Outputs) : Type 0 where
   pub prices : prices_fit k.excess_price k.shortfall_price ≡ true
 
 -- of n users at the first places of the part p
-pub record Leaves (n : ℕ) (p : List ℤ) (k : ClosingTerms) (o o' : Outputs) (s b : ℤ) : Type 0 where
+pub record Leaves (n : ℕ) (p : List ℤ) (k : ClosingTerms) (o o' : Outputs) : Type 0 where
   pub same : Same o o'
   pub quantity : o'.quantity.now ≡ take n p
   pub money : o'.money.now ≡ moneys k.excess_price k.shortfall_price (take n p)
-  pub sold : s ≡ sold (take n p)
-  pub bought : b ≡ bought (take n p)
 
-pub record PartLeaves (n : ℕ) (p p' : List ℤ) (k : ClosingTerms) (o o' : Outputs) (s b : ℤ) : Type 0 where
-  pub lists : Leaves n p k o o' s b
+pub record PartLeaves (n : ℕ) (p p' : List ℤ) (k : ClosingTerms) (o o' : Outputs) : Type 0 where
+  pub lists : Leaves n p k o o'
   pub places : p' ≡ replicate (length p) (pos 0)
 
 pub record TableAsks (tb : List ℤ) (k : ClosingTerms) (o : Outputs) : Type 0 where
   pub long : length tb ≡ 256
   pub lists : Asks (part k.zone tb) k o
 
-pub record TableLeaves (n : ℕ) (tb tb' : List ℤ) (k : ClosingTerms) (o o' : Outputs) (s b : ℤ) : Type 0 where
-  pub lists : Leaves n (part k.zone tb) k o o' s b
+pub record TableLeaves (n : ℕ) (tb tb' : List ℤ) (k : ClosingTerms) (o o' : Outputs) : Type 0 where
+  pub lists : Leaves n (part k.zone tb) k o o'
   pub table : tb' ≡ with_part k.zone (λ p. replicate 128 (pos 0)) tb

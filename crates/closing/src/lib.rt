@@ -1,21 +1,14 @@
-// The closing of a zone, once no cause is left: each user's quantity is its whole position.
+// The closing of a zone, once no cause is left: each user's quantity is its whole position. (What is sold and bought is summed before, for cause 25: crate `totals`.)
 
 #![tactic(auto)]
 
 ghost use Rattle.std.specs.Prelude.{◌≡◌, ◌≤◌, nat_abs, length};
 ghost use Rattle.integers.specs.Lists.{AtMost};
-ghost use Rattle.rules.specs.Limits.{users_most, position_most, price_most};
-ghost use Rattle.rules.specs.Market.{money_of, moneys, sold, bought};
-ghost use Rattle.closing.specs.Steps.{sold_of, bought_of, Asks, PartLeaves, TableAsks, TableLeaves};
+ghost use Rattle.rules.specs.Limits.{position_most, price_most};
+ghost use Rattle.rules.specs.Market.{money_of, moneys};
+ghost use Rattle.closing.specs.Steps.{Asks, PartLeaves, TableAsks, TableLeaves};
 
 use rules::{ClosingTerms, Outputs};
-
-// What was sold and bought, both as sizes.
-#[derive(Clone, Copy)]
-pub struct Sums {
-    pub sold: i64,
-    pub bought: i64,
-}
 
 // ---- one user
 
@@ -33,23 +26,6 @@ fn money_of(excess_price: i64, shortfall_price: i64, quantity: i64) -> i64
     }
 }
 
-// A sale's size, and 0 for a purchase.
-#[tactic(auto, unfolding(crate::specs::Steps::sold_of))]
-fn sold_of(quantity: i64) -> i64
-    ensures { result ≡ sold_of quantity }
-{
-    quantity.max(0)
-}
-
-// A purchase's size, and 0 for a sale.
-#[tactic(auto, unfolding(crate::specs::Steps::bought_of))]
-fn bought_of(quantity: i64) -> i64
-    requires { nat_abs quantity ≤ position_most }
-    ensures { result ≡ bought_of quantity }
-{
-    (-quantity).max(0)
-}
-
 // ---- all users
 
 fn money_all(excess_price: i64, shortfall_price: i64, quantity: &[i64], money: &mut [i64])
@@ -62,27 +38,13 @@ fn money_all(excess_price: i64, shortfall_price: i64, quantity: &[i64], money: &
     }
 }
 
-// The sum of the sales and that of the purchases, as sizes.
-fn sums_of(quantity: &[i64]) -> Sums
-    requires { (length quantity.now ≤ users_most) × AtMost position_most quantity.now }
-    ensures { (result.sold ≡ sold quantity.now) × (result.bought ≡ bought quantity.now) }
-{
-    let mut sold = 0;
-    let mut bought = 0;
-    for traded in quantity {
-        sold += sold_of(*traded);
-        bought += bought_of(*traded);
-    }
-    Sums { sold, bought }
-}
-
 // ---- a zone
 
 // The users' places are the first of the part; all its places become zero.
-fn close_part(part: &mut [i64], terms: ClosingTerms, outputs: &mut Outputs) -> Sums
+fn close_part(part: &mut [i64], terms: ClosingTerms, outputs: &mut Outputs)
     requires { Asks part.old terms outputs.old }
     ensures { PartLeaves (length outputs.old.quantity.now) part.old part.new terms
-        outputs.old outputs.new result.sold result.bought }
+        outputs.old outputs.new }
 {
     let users = outputs.quantity.len();
     let quantity = &part[..users];
@@ -93,16 +55,14 @@ fn close_part(part: &mut [i64], terms: ClosingTerms, outputs: &mut Outputs) -> S
         quantity,
         outputs.money,
     );
-    let sums = sums_of(quantity);
     part.fill(0);
-    sums
 }
 
 // A closing works on its zone's part of the table and leaves the other part untouched: a branch for each part, as for an hour (`settlement::settle_table`).
-pub fn close_table(table: &mut [i64], terms: ClosingTerms, outputs: &mut Outputs) -> Sums
+pub fn close_table(table: &mut [i64], terms: ClosingTerms, outputs: &mut Outputs)
     requires { TableAsks table.old terms outputs.old }
     ensures { TableLeaves (length outputs.old.quantity.now) table.old table.new terms
-        outputs.old outputs.new result.sold result.bought }
+        outputs.old outputs.new }
 {
     if terms.zone == 0 {
         close_part(&mut table[0..128], terms, outputs)

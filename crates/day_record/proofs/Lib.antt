@@ -1,2 +1,2 @@
--- What a record that fits says of its hours.
+-- What a record that fits says of its hours and totals.
 pub mod Records

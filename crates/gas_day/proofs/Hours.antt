@@ -1,10 +1,11 @@
 -- An hour by its cause: what is answered where there is one, what the settlement may count on where there is none, and what is answered then. Assumes nothing.
-use mathlib.Core.Path.{◌≡◌, refl, sym, ◌∙◌}
+use mathlib.Core.Path.{◌≡◌, refl, sym, ap, ◌∙◌}
 use mathlib.Core.Bool.{true}
 use mathlib.Core.List.{List}
-use Prim.Native.Nat.{ℕ}
-use lib.IntN.{ℤ}
+use Prim.Native.Nat.{ℕ, ◌≤◌}
+use lib.IntN.{ℤ, nat_abs}
 use Rattle.std.specs.Prelude.{Result, Ok, Err}
+use Rattle.integers.specs.Lists.{sum_ℤ}
 use Rattle.rules.specs.declared.Amounts.{Amounts}
 use Rattle.rules.specs.declared.Cause.{Cause}
 use Rattle.rules.specs.declared.Day.{Day}
@@ -13,13 +14,19 @@ use Rattle.rules.specs.declared.Outcome.{Outcome}
 use Rattle.rules.specs.declared.Outputs.{Outputs}
 use Rattle.rules.specs.declared.Refusal.{Refusal}
 use Rattle.rules.specs.declared.HourDone.{HourDone}
-use Rattle.rules.specs.Refusals.{by_cause}
+use Rattle.rules.specs.Refusals.{◌then◌, by_cause}
 use Rattle.rules.specs.Days.{users, part, day_after_hour}
 use Rattle.rules.specs.Hours.{Hour, hour_given, before}
-use Rattle.rules.specs.Causes.{day_fit, hour_cause}
-use Rattle.rules.specs.Answers.{hour_imbalance, hour_answer, hour_table, hour_quantity, hour_money, hour_scratch}
+use Rattle.rules.specs.Causes.{day_fit, terms_fit, hour_cause}
+use Rattle.rules.specs.Market.{imbalance_of, hour_imbalance, hour_sums}
+use Rattle.rules.specs.Answers.{hour_answer, hour_table, hour_quantity, hour_money, hour_scratch}
 use Rattle.rules.specs.Promises.{HourPromise}
+use Rattle.rules.proofs.Refusing.{then_ok}
 use Rattle.rules.proofs.Accepted.{hour_fit_lem, HourLengths, hour_lengths, hour_sound}
+use Rattle.rules.specs.Limits.{market_most}
+use Rattle.day_record.specs.Small.{SumsSmall}
+use Rattle.totals.specs.Sums.{total_sums}
+use Rattle.totals.proofs.Hours.{market_asked, hour_told, hour_small}
 use Rattle.positions.specs.Before.{befores}
 use Rattle.positions.proofs.Before.{before_is, inputs_fit}
 use Rattle.settlement.specs.Steps.{TableAsks, TableLeaves}
@@ -33,7 +40,11 @@ module _ (d : Day) (t : List ℤ) (k : HourTerms) (a : Amounts) (o : Outputs) (s
   unfolding hour_answer hour_table hour_quantity hour_money hour_scratch by_cause
   not_done is e = record { answer = rw (e, is) refl; table = rw is refl; quantity = rw is refl; money = rw is refl; scratch = rw is refl }
 
-  module _ (none : hour_cause d t g ≡ Ok tt) where
+  -- no cause, and the market position m
+  module _ {m : ℤ} (past : (hour_cause d t g then Ok (sum_ℤ (before d t g))) ≡ Ok m) where
+    none : hour_cause d t g ≡ Ok tt
+    none = (then_ok past).0
+
     pub lengths : HourLengths (users d) g
     lengths = hour_lengths d t g (hour_fit_lem d t g none).lengths
 
@@ -43,7 +54,10 @@ module _ (d : Day) (t : List ℤ) (k : HourTerms) (a : Amounts) (o : Outputs) (s
     pub day_fits_lem : day_fit d ≡ true
     day_fits_lem = (hour_fit_lem d t g none).day
 
-    pub asks : TableAsks t a k o s
+    market_is : m ≡ sum_ℤ (befores (part k.zone t) a)
+    market_is = sym (then_ok past).1 ∙ ap sum_ℤ positions_before
+
+    pub asks : TableAsks t a k m o s
     asks =
         let f = hour_fit_lem d t g none in
         let sound = hour_sound d t g none in
@@ -54,6 +68,7 @@ module _ (d : Day) (t : List ℤ) (k : HourTerms) (a : Amounts) (o : Outputs) (s
           lists = record {
             amounts = fit.range;
             positions = fit.positions;
+            market = market_is;
             terms = f.inputs.terms;
             quantities = l.quantities ∙ sym l.amounts.entries;
             moneys = l.moneys ∙ sym l.amounts.entries;
@@ -61,8 +76,18 @@ module _ (d : Day) (t : List ℤ) (k : HourTerms) (a : Amounts) (o : Outputs) (s
           };
         }
 
+    -- what the hour sells and buys, from its market position
+    pub sums_asked : (terms_fit k ≡ true) × (nat_abs m ≤ market_most)
+    sums_asked = rw (← (then_ok past).1) (market_asked d t g (hour_fit_lem d t g none).inputs (hour_sound d t g none).few)
+
+    pub sums_told : total_sums (imbalance_of k.upper k.lower m) ≡ hour_sums d t g
+    sums_told = rw (← (then_ok past).1) (hour_told d t g (hour_fit_lem d t g none).inputs)
+
+    pub sums_small : SumsSmall (hour_sums d t g)
+    sums_small = hour_small d t g (hour_fit_lem d t g none).inputs (hour_sound d t g none).few
+
     pub done : (t' : List ℤ) (o' : Outputs) (s' : List ℕ) (x : Outcome) (d' : Day)
-        → TableLeaves t t' a k o o' s s' x → d' ≡ day_after_hour k.zone d
+        → TableLeaves t t' a k o o' s s' x → d' ≡ day_after_hour k.zone (hour_sums d t g) d
         → HourPromise d t g t' o'.quantity.now o'.money.now s' (Ok (record { day = d'; outcome = x }))
     unfolding hour_imbalance hour_answer hour_table hour_quantity hour_money hour_scratch by_cause
     done t' o' s' x d' v e =

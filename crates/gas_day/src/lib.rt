@@ -14,8 +14,8 @@ use rules::{
     Thresholds,
 };
 
-// What a refusal of an hour, a preview, the judge or a closing returns: "number, same record".
-fn refused(cause: Result<(), Cause>, day: Day) -> Result<(), Refusal>
+// What a refusal of an hour, a preview, the judge or a closing returns: "number, same record"; and what was found where there is none.
+fn refused<A: Copy>(cause: Result<A, Cause>, day: Day) -> Result<A, Refusal>
     ensures { result ≡ with_day day cause }
 {
     cause.map_err(|cause| Refusal { cause, day })
@@ -41,7 +41,7 @@ pub fn default_thresholds(month: i64, zone: i64) -> Result<Thresholds, Cause>
     Ok(Thresholds { upper, lower })
 }
 
-// Settles an hour of a zone: causes 2 to 11.
+// Settles an hour of a zone: causes 2 to 11 and 25.
 pub fn settle_hour(
     day: Day,
     table: &mut [i64],
@@ -56,13 +56,14 @@ pub fn settle_hour(
         table.new outputs.new.quantity.now outputs.new.money.now scratch.new result }
 {
     let cause = causes::hour_cause(day, table, terms, amounts, outputs, scratch);
-    refused(cause, day)?;
-    let outcome = settlement::settle_table(table, amounts, terms, outputs, scratch);
-    let next = day_record::day_after_hour(terms.zone, day);
+    let market = refused(cause, day)?;
+    let outcome = settlement::settle_table(table, amounts, terms, market, outputs, scratch);
+    let sums = totals::hour_sums(terms, market);
+    let next = day_record::day_after_hour(terms.zone, sums, day);
     Ok(HourDone { day: next, outcome })
 }
 
-// Shows an hour of a zone before it is settled: causes 2 to 11. The positions after go to a list of their own, and the record comes back unchanged.
+// Shows an hour of a zone before it is settled: causes 2 to 11 and 25. The positions after go to a list of their own, and the record comes back unchanged.
 pub fn preview_hour(
     day: Day,
     table: &[i64],
@@ -78,8 +79,8 @@ pub fn preview_hour(
         outputs.new.quantity.now outputs.new.money.now after.new scratch.new result }
 {
     let cause = causes::preview_cause(day, table, terms, amounts, outputs, after, scratch);
-    refused(cause, day)?;
-    let outcome = settlement::settle_copy(table, amounts, terms, outputs, after, scratch);
+    let market = refused(cause, day)?;
+    let outcome = settlement::settle_copy(table, amounts, terms, market, outputs, after, scratch);
     Ok(HourDone { day, outcome })
 }
 
@@ -99,7 +100,7 @@ pub fn judge_hour(
     Ok(day)
 }
 
-// Closes a zone after its last hour: causes 2 to 8.
+// Closes a zone after its last hour: causes 2 to 8 and 25.
 pub fn close_zone(
     day: Day,
     table: &mut [i64],
@@ -112,9 +113,9 @@ pub fn close_zone(
         table.new outputs.new.quantity.now outputs.new.money.now result }
 {
     let cause = causes::closing_cause(day, table, terms, outputs);
-    refused(cause, day)?;
-    let sums = closing::close_table(table, terms, outputs);
-    let next = day_record::day_after_closing(terms.zone, day);
+    let sums = refused(cause, day)?;
+    closing::close_table(table, terms, outputs);
+    let next = day_record::day_after_closing(terms.zone, sums, day);
     Ok(ClosingDone {
         day: next,
         sold: sums.sold,

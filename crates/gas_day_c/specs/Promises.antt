@@ -17,7 +17,7 @@ use Rattle.flat.specs.Flat.{flat_open, flat_hour, flat_closing, flat_file, flat_
 
 -- the interface's version
 abbrev pub version : ℕ
-version = 2
+version = 3
 
 pub record OpenForC (n len : ℤ) (t t' : List ℤ) (r : OpenC) : Type 0 where
   pub answer : r ≡ flat_open (open_answer n len t)

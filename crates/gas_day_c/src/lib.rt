@@ -18,7 +18,7 @@ use record_c::DayC;
 use rules::{Amounts, ClosingTerms, HourTerms, Outputs};
 
 // The interface's version: one more where a client that was built with an older header would call it wrongly.
-pub const VERSION: u64 = 2;
+pub const VERSION: u64 = 3;
 
 #[unsafe(no_mangle)]
 pub extern "C" fn gas_day_version() -> u64

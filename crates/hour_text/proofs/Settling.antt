@@ -18,9 +18,9 @@ use Rattle.rules.specs.declared.Refusal.{Refusal}
 use Rattle.rules.specs.declared.HourDone.{HourDone}
 use Rattle.rules.specs.Days.{users, first_place, part}
 use Rattle.rules.specs.Hours.{Hour, before}
-use Rattle.rules.specs.Market.{quantities, after, moneys}
+use Rattle.rules.specs.Market.{quantities, after, moneys, hour_imbalance}
 use Rattle.rules.specs.Causes.{hour_cause, before_fit}
-use Rattle.rules.specs.Answers.{hour_imbalance, hour_answer, hour_table, hour_quantity, hour_money}
+use Rattle.rules.specs.Answers.{hour_answer, hour_table, hour_quantity, hour_money}
 use Rattle.rules.proofs.Refusing.{by_none, with_day_none}
 use Rattle.rules.proofs.Accepted.{hour_fit_lem, hour_sound, hour_lengths}
 use Rattle.rules.proofs.Small.{positions_small}

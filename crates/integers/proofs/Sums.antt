@@ -12,7 +12,7 @@ use Rattle.integers.specs.Lists.{sum_ℤ, AtMost}
 use Rattle.integers.proofs.Linear.{lin4, diffs, linear}
 use Rattle.integers.proofs.Sizes.{size-add}
 
-sum-append : (xs ys : List ℤ) → sum_ℤ (xs ++ ys) ≡ sum_ℤ xs +ℤ sum_ℤ ys
+pub sum-append : (xs ys : List ℤ) → sum_ℤ (xs ++ ys) ≡ sum_ℤ xs +ℤ sum_ℤ ys
 unfolding sum_ℤ
 sum-append [] ys = sym (+ℤ_idl (sum_ℤ ys))
 sum-append (x ∷ xs) ys = ap (λ (z : ℤ). x +ℤ z) (sum-append xs ys) ∙ sym (+ℤ_assoc x (sum_ℤ xs) (sum_ℤ ys))

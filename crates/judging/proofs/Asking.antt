@@ -1,5 +1,5 @@
 -- What causes 22 to 24 ask of each other, by the positions before; and what causes 2 to 11 leave for them. Assumes nothing.
-use mathlib.Core.Path.{◌≡◌, refl, sym, ◌∙◌, subst}
+use mathlib.Core.Path.{◌≡◌, refl, sym, ap, ◌∙◌, subst}
 use mathlib.Core.Bool.{true}
 use mathlib.Core.List.{List, []}
 use Prim.Native.Nat.{◌≤◌}
@@ -13,12 +13,13 @@ use Rattle.rules.specs.declared.Day.{Day}
 use Rattle.rules.specs.declared.HourTerms.{HourTerms}
 use Rattle.rules.specs.Limits.{users_most, position_most, market_most}
 use Rattle.rules.specs.Days.{users, part}
-use Rattle.rules.specs.Hours.{inputs_given}
-use Rattle.rules.specs.Market.{Imbalance, imbalance, total, sizes}
+use Rattle.rules.specs.Hours.{inputs_given, before}
+use Rattle.rules.specs.Market.{Imbalance, imbalance, total, sizes, hour_imbalance}
 use Rattle.rules.specs.Causes.{judge_inputs_cause}
-use Rattle.rules.specs.Answers.{hour_imbalance}
 use Rattle.rules.specs.Judging.{each_user, sign_right, share_right, judge_cause}
 use Rattle.rules.specs.Guarantees.{JudgeFit}
+use Rattle.rules.specs.Refusals.{◌then◌}
+use Rattle.rules.proofs.Refusing.{then_ok}
 use Rattle.rules.proofs.Small.{positions_small}
 use Rattle.rules.proofs.Accepted.{thresholds_sound, JudgeLengths, judge_lengths}
 use Rattle.rules.proofs.Settling.{View, view, total_enough}
@@ -43,9 +44,9 @@ module _ {i : Imbalance} {p : List ℤ} {a : Amounts} {qs : List ℤ} (g : Found
     quantities_small i (befores p a) qs (length-befores p a ∙ sym g.long) _ position_most g.enough (positions_small (befores p a) g.fit.positions) signs shares,
   )
 
-module _ {p : List ℤ} {a : Amounts} {k : HourTerms} {qs : List ℤ} (g : Asked p a k qs) where
-  pub market_asked : nat_abs (sum_ℤ (befores p a)) ≤ market_most
-  market_asked = market_small (befores p a) (few g.fit) g.fit.positions
+module _ {p : List ℤ} {a : Amounts} {k : HourTerms} {m : ℤ} {qs : List ℤ} (g : Asked p a k m qs) where
+  pub market_asked : nat_abs m ≤ market_most
+  market_asked = rw g.market (market_small (befores p a) (few g.fit) g.fit.positions)
 
   -- of the imbalance that was found
   pub found_asked : (i : Imbalance) → i ≡ imbalance k.upper k.lower (befores p a) → Found i p a qs
@@ -61,14 +62,18 @@ module _ {p : List ℤ} {a : Amounts} {k : HourTerms} {qs : List ℤ} (g : Asked
       }
 
 -- ---- past causes 2 to 11
-module _ (d : Day) (t : List ℤ) (k : HourTerms) (a : Amounts) (qs : List ℤ) (none : judge_inputs_cause d t (inputs_given k a) qs ≡ Ok tt) where
+module _ (d : Day) (t : List ℤ) (k : HourTerms) (a : Amounts) (qs : List ℤ) {m : ℤ}
+    (past : (judge_inputs_cause d t (inputs_given k a) qs then Ok (sum_ℤ (before d t (inputs_given k a)))) ≡ Ok m) where
   fit : JudgeFit d t (inputs_given k a) qs
-  fit = inputs_judged d t (inputs_given k a) qs none
+  fit = inputs_judged d t (inputs_given k a) qs (then_ok past).0
 
   lengths : JudgeLengths (users d) (inputs_given k a) qs
   lengths = judge_lengths d t (inputs_given k a) qs fit.lengths
 
-  pub table_asked : AskedTable t a k qs
+  positions : before d t (inputs_given k a) ≡ befores (part k.zone t) a
+  positions = before_is d t k a [] [] [] lengths.amounts.entries
+
+  pub table_asked : AskedTable t a k m qs
   table_asked =
       let sound = judge_sound d t (inputs_given k a) qs fit in
       record {
@@ -76,10 +81,11 @@ module _ (d : Day) (t : List ℤ) (k : HourTerms) (a : Amounts) (qs : List ℤ) 
         asked = record {
           fit = inputs_fit d t k a [] [] [] sound lengths.amounts fit.inputs;
           terms = fit.inputs.terms;
+          market = sym (then_ok past).1 ∙ ap sum_ℤ positions;
           long = lengths.quantities ∙ sym lengths.amounts.entries;
         };
       }
 
   pub judged : asked_cause (part k.zone t) a k qs ≡ judge_cause d t (inputs_given k a) qs
   unfolding judge_cause hour_imbalance
-  judged = rw (none, before_is d t k a [] [] [] lengths.amounts.entries) refl
+  judged = rw ((then_ok past).0, positions) refl

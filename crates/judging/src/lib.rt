@@ -99,18 +99,6 @@ fn share_right(imbalance: Imbalance, sum: u64, position: i64, quantity: i64) -> 
 
 // ---- all users
 
-// The market position.
-fn market_of(part: &[i64], amounts: &Amounts) -> i64
-    requires { Fit part.now amounts.now }
-    ensures { result ≡ sum_ℤ (befores part.now amounts.now) }
-{
-    let mut market = 0;
-    for user in 0..amounts.entries.len() {
-        market += positions::before_at(part, amounts, user);
-    }
-    market
-}
-
 // The sum of all causers' sizes.
 fn sum_of_sizes(imbalance: Imbalance, part: &[i64], amounts: &Amounts) -> u64
     requires { Fit part.now amounts.now }
@@ -198,17 +186,17 @@ fn quantities_cause(
     require(sum_right(imbalance, quantity), Cause::Sum)
 }
 
-// The same over a part of the table, once the imbalance is found (rule 2).
+// The same over a part of the table, by the imbalance that the market position makes (rule 2).
 fn part_quantities_cause(
     part: &[i64],
     amounts: &Amounts,
     terms: HourTerms,
+    market: i64,
     quantity: &[i64],
 ) -> Result<(), Cause>
-    requires { Asked part.now amounts.now terms quantity.now }
+    requires { Asked part.now amounts.now terms market quantity.now }
     ensures { result ≡ asked_cause part.now amounts.now terms quantity.now }
 {
-    let market = market_of(part, amounts);
     let imbalance = positions::imbalance_of(terms, market);
     quantities_cause(imbalance, part, amounts, quantity)
 }
@@ -219,15 +207,16 @@ fn zone_quantities_cause(
     table: &[i64],
     amounts: &Amounts,
     terms: HourTerms,
+    market: i64,
     quantity: &[i64],
 ) -> Result<(), Cause>
-    requires { AskedTable table.now amounts.now terms quantity.now }
+    requires { AskedTable table.now amounts.now terms market quantity.now }
     ensures { result ≡ asked_cause (part terms.zone table.now) amounts.now terms quantity.now }
 {
     if terms.zone == 0 {
-        part_quantities_cause(&table[0..128], amounts, terms, quantity)
+        part_quantities_cause(&table[0..128], amounts, terms, market, quantity)
     } else {
-        part_quantities_cause(&table[128..256], amounts, terms, quantity)
+        part_quantities_cause(&table[128..256], amounts, terms, market, quantity)
     }
 }
 
@@ -241,6 +230,6 @@ pub fn judge_cause(
 ) -> Result<(), Cause>
     ensures { result ≡ judge_cause day table.now (inputs_given terms amounts.now) quantity.now }
 {
-    causes::judge_inputs_cause(day, table, terms, amounts, quantity)?;
-    zone_quantities_cause(table, amounts, terms, quantity)
+    let market = causes::judge_inputs_cause(day, table, terms, amounts, quantity)?;
+    zone_quantities_cause(table, amounts, terms, market, quantity)
 }

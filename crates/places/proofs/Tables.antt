@@ -1,5 +1,5 @@
 -- Cause 7 by its live places: the same test, with each place looked at once; and zeros found by `or`. Assumes nothing.
-use mathlib.Core.Path.{◌≡◌, refl, sym, ap, ap₂, ◌∙◌}
+use mathlib.Core.Path.{◌≡◌, refl, sym, ap₂, ◌∙◌}
 use mathlib.Core.Bool.{Bool, true, false, not, cond, ◌&&◌, ◌||◌, and-true, and-false, and_self}
 use mathlib.Core.List.{List, [], ◌∷◌}
 use Prim.Native.Nat.{ℕ, zero, suc, zero-le, ◌+◌, ◌-◌, ◌≤◌, ◌<◌}
@@ -9,18 +9,19 @@ use borrow.Author.Tests.{eqb-true, eqb-false, eq-eqb, ne_eqb}
 use lib.Bits.{bit_or, or_add_and, and_le_l, and_le_r}
 use lib.Dec.{eqb}
 use lib.IntN.{ℤ, pos, negsuc}
-use lib.ListN.{length, get_or, take, drop, length-drop, take-append-drop}
+use lib.ListN.{length, get_or, take, drop, length-drop}
 use lib.Seq.{take_all}
 use mir.Syntax.{w64}
 use mir.Val.{SFits, of_z}
 use Rattle.integers.specs.Ranges.{is_zero}
 use Rattle.integers.specs.Lists.{every}
 use Rattle.integers.proofs.Machine.{zero_bits}
-use Rattle.integers.proofs.Passes.{every_append, every-step}
+use Rattle.integers.proofs.Passes.{every-step}
 use Rattle.rules.specs.declared.Day.{Day}
 use Rattle.rules.specs.Limits.{position_fit}
-use Rattle.rules.specs.Days.{users, hours_done, is_closed, first_place, part}
-use Rattle.rules.specs.Causes.{positions_fit, beyond_zero, idle_zero, table_fit}
+use Rattle.rules.specs.Days.{users, hours_done, is_closed, part}
+use Rattle.rules.specs.Causes.{beyond_zero, idle_zero, table_fit}
+use Rattle.rules.proofs.Zones.{parts_fit}
 use Rattle.places.specs.Live.{live_places, part_fit}
 
 -- ---- no zone has more live places than users
@@ -84,17 +85,11 @@ module _ (d : Day) (t : List ℤ) where
       go true = every_rest is_zero (users d) (part zone t)
       go false = and-true _
 
-  parts_fit : length t ≡ 256 → positions_fit t ≡ (every position_fit (part (pos 0) t) && every position_fit (part (pos 1) t))
-  unfolding positions_fit part first_place
-  parts_fit long =
-      rw (take_all 128 (drop 128 t) (simp length-drop (omega arith)))
-      (ap (every position_fit) (sym (take-append-drop 128 t)) ∙ every_append position_fit (take 128 t) (drop 128 t))
-
   pub table_parts : length t ≡ 256
       → (part_fit (live_places (pos 0) d) (part (pos 0) t) && part_fit (live_places (pos 1) d) (part (pos 1) t)) ≡ table_fit d t
   unfolding table_fit part_fit
   table_parts long =
-      rw (parts_fit long, ← part_zeros (pos 0), ← part_zeros (pos 1))
+      rw (parts_fit t long, ← part_zeros (pos 0), ← part_zeros (pos 1))
       (sym (by_zone
       (every position_fit (part (pos 0) t)) (every position_fit (part (pos 1) t))
       (beyond_zero (pos 0) d t) (beyond_zero (pos 1) d t) (idle_zero (pos 0) d t) (idle_zero (pos 1) d t)))

@@ -56,11 +56,18 @@ lent_text table quantity money =
 unfoldable pub closed_text : Bool → List ℕ
 closed_text closed = cond closed (bytes " closed") []
 
+unfoldable pub totals_text : ℤ → ℤ → List ℕ
+totals_text sold bought = filled (bytes " sold | bought |") (sold ∷ bought ∷ [])
+
 unfoldable pub zone_text : ZoneDay → List ℕ
-zone_text z = decimal z.hours ++ closed_text z.closed
+zone_text z = decimal z.hours ++ closed_text z.closed ++ totals_text z.sold z.bought
+
+-- for how many users, and of how many hours
+unfoldable pub users_text : ℤ → ℤ → List ℕ
+users_text users length = filled (bytes "users |, length |") (users ∷ length ∷ [])
 
 unfoldable pub day_text : Day → List ℕ
-day_text d = filled (bytes "users |, length |, H ") (d.users ∷ d.length ∷ []) ++ zone_text d.h ++ bytes ", L " ++ zone_text d.l
+day_text d = users_text d.users d.length ++ bytes ", H " ++ zone_text d.h ++ bytes ", L " ++ zone_text d.l
 
 -- ---- refusals
 unfoldable pub refused_text : ℕ → List ℕ

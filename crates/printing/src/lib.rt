@@ -17,6 +17,8 @@ ghost use Rattle.printing.specs.Words.{
   kept_text,
   lent_text,
   closed_text,
+  totals_text,
+  users_text,
   zone_text,
   day_text,
   refused_text,
@@ -179,21 +181,44 @@ impl<const N: usize> Text<N> {
 
     // ---- the record
 
-    #[tactic(auto, using(crate::proofs::Said::said_then), unfolding(crate::specs::Words::zone_text, crate::specs::Words::closed_text))]
+    #[tactic(auto, using(crate::proofs::Said::said_none), unfolding(crate::specs::Words::closed_text))]
+    fn say_closed(&mut self, closed: bool)
+        ensures { self.new ≡ said N self.old (closed_text closed) }
+    {
+        if closed {
+            self.say(b" closed");
+        }
+    }
+
+    #[tactic(auto, unfolding(crate::specs::Words::totals_text))]
+    fn say_totals(&mut self, sold: i64, bought: i64)
+        ensures { self.new ≡ said N self.old (totals_text sold bought) }
+    {
+        self.say_row(b" sold | bought |", &[sold, bought]);
+    }
+
+    #[tactic(auto, using(crate::proofs::Said::said_then), unfolding(crate::specs::Words::zone_text))]
     fn say_zone(&mut self, zone_day: ZoneDay)
         ensures { self.new ≡ said N self.old (zone_text zone_day) }
     {
         self.say_number(zone_day.hours);
-        if zone_day.closed {
-            self.say(b" closed");
-        }
+        self.say_closed(zone_day.closed);
+        self.say_totals(zone_day.sold, zone_day.bought);
+    }
+
+    #[tactic(auto, unfolding(crate::specs::Words::users_text))]
+    fn say_users(&mut self, users: i64, length: i64)
+        ensures { self.new ≡ said N self.old (users_text users length) }
+    {
+        self.say_row(b"users |, length |", &[users, length]);
     }
 
     #[tactic(auto, using(crate::proofs::Said::said_then), unfolding(crate::specs::Words::day_text))]
     pub fn say_day(&mut self, day: Day)
         ensures { self.new ≡ said N self.old (day_text day) }
     {
-        self.say_row(b"users |, length |, H ", &[day.users, day.length]);
+        self.say_users(day.users, day.length);
+        self.say(b", H ");
         self.say_zone(day.h);
         self.say(b", L ");
         self.say_zone(day.l);

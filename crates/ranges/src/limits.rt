@@ -3,8 +3,8 @@
 ghost use Rattle.std.specs.Prelude.{◌≡◌, Bool, ℤ, pos, neg_ℤ, refl};
 ghost use Rattle.integers.specs.Lists.{every};
 ghost use Rattle.integers.specs.Ranges.{in_range};
-ghost use Rattle.rules.specs.Limits.{entry_most, exit_most, title_most, pooling_most, position_most, price_most};
-ghost use Rattle.rules.specs.Limits.{entry_fit, exit_fit, title_fit, pooling_fit, position_fit, upper_fit, lower_fit, price_fit};
+ghost use Rattle.rules.specs.Limits.{entry_most, exit_most, title_most, pooling_most, position_most, total_most, price_most};
+ghost use Rattle.rules.specs.Limits.{entry_fit, exit_fit, title_fit, pooling_fit, position_fit, total_fit, upper_fit, lower_fit, price_fit};
 ghost use Rattle.ranges.specs.Kinds.{only_if};
 
 // A kind of number with its limits, and the test of the rules that they stand for.
@@ -63,6 +63,24 @@ impl Position {
     {
         Position::fits(kwh).then_some(Position { kwh })
     }
+}
+
+// What was sold so far in a zone, or bought, in kWh and as a size. (It holds no number: the record's totals are tested where they stand.)
+#[derive(Clone, Copy)]
+pub struct Total {}
+
+impl Kind for Total {
+    const LEAST: i64 = 0;
+
+    const MOST: i64 = 332_800_000_000;
+
+    ghost LEAST = { pos 0 };
+
+    ghost MOST = { pos total_most };
+
+    ghost fit = { total_fit };
+
+    ghost is_fit = { λ x. unfold total_fit in refl };
 }
 
 // A price in millionths of a euro per kWh.

@@ -29,13 +29,13 @@ zone-fits : (z : ZoneDay) → mark_fits (zone_for_c z) ≡ true
 unfolding mark_fits zone_for_c
 zone-fits z = go z.closed
   where
-    go : (b : Bool) → mark_fits (record { hours = z.hours; closed = pos (bit b) }) ≡ true
+    go : (b : Bool) → mark_fits (record { hours = z.hours; closed = pos (bit b); sold = z.sold; bought = z.bought }) ≡ true
     go true = refl
     go false = refl
 
 zone_kept : (z : ZoneDay) → zone_of (zone_for_c z) ≡ z
 unfolding zone_of zone_for_c
-zone_kept z = ap (λ (b : Bool). record { hours = z.hours; closed = b }) (mark_kept z.closed)
+zone_kept z = ap (λ (b : Bool). record { hours = z.hours; closed = b; sold = z.sold; bought = z.bought }) (mark_kept z.closed)
 
 day_kept : (d : Day) → day_of (day_for_c d) ≡ d
 unfolding day_of day_for_c users_of marks_fit
@@ -49,7 +49,7 @@ mark_given (negsuc n) e = not_both (sym e)
 
 zone-given : (z : ZoneDayC) → mark_fits z ≡ true → zone_for_c (zone_of z) ≡ z
 unfolding zone_of zone_for_c mark_fits
-zone-given z e = ap (λ (x : ℤ). record { hours = z.hours; closed = x }) (mark_given z.closed e)
+zone-given z e = ap (λ (x : ℤ). record { hours = z.hours; closed = x; sold = z.sold; bought = z.bought }) (mark_given z.closed e)
 
 day_given : (d : DayC) → marks_fit d ≡ true → day_for_c (day_of d) ≡ d
 unfolding day_of day_for_c users_of marks_fit

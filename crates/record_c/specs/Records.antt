@@ -9,7 +9,7 @@ use Rattle.record_c.specs.declared.ZoneDayC.{ZoneDayC}
 
 -- ---- a record that a call answers
 unfoldable pub zone_for_c : ZoneDay → ZoneDayC
-zone_for_c z = record { hours = z.hours; closed = pos (bit z.closed) }
+zone_for_c z = record { hours = z.hours; closed = pos (bit z.closed); sold = z.sold; bought = z.bought }
 
 unfoldable pub day_for_c : Day → DayC
 day_for_c d = record { users = d.users; length = d.length; h = zone_for_c d.h; l = zone_for_c d.l }
@@ -28,7 +28,7 @@ unfoldable pub users_of : DayC → ℤ
 users_of d = cond (marks_fit d) d.users (pos 0)
 
 unfoldable pub zone_of : ZoneDayC → ZoneDay
-zone_of z = record { hours = z.hours; closed = not (is_zero z.closed) }
+zone_of z = record { hours = z.hours; closed = not (is_zero z.closed); sold = z.sold; bought = z.bought }
 
 unfoldable pub day_of : DayC → Day
 day_of d = record { users = users_of d; length = d.length; h = zone_of d.h; l = zone_of d.l }

@@ -7,12 +7,14 @@ ghost use Rattle.record_c.specs.Records.{zone_for_c, day_for_c, mark_fits, users
 
 use rules::{Day, ZoneDay};
 
-// Of one zone: the hours done, and whether it is closed, 0 or 1.
+// Of one zone: the hours done, whether it is closed, 0 or 1, and what was sold and bought so far.
 #[repr(C)]
 #[derive(Clone, Copy, Default)]
 pub struct ZoneDayC {
     pub hours: i64,
     pub closed: i64,
+    pub sold: i64,
+    pub bought: i64,
 }
 
 #[repr(C)]
@@ -34,6 +36,8 @@ impl From<ZoneDay> for ZoneDayC {
         ZoneDayC {
             hours: zone_day.hours,
             closed: i64::from(zone_day.closed),
+            sold: zone_day.sold,
+            bought: zone_day.bought,
         }
     }
 }
@@ -78,13 +82,15 @@ impl DayC {
 }
 
 impl From<ZoneDayC> for ZoneDay {
-    ghost from_gives = { λ zone_day taken. taken ≡ zone_of zone_day };
+    ghost from_gives = { λ given taken. taken ≡ zone_of given };
 
     #[tactic(auto, unfolding(crate::specs::Records::zone_of))]
-    fn from(zone_day: ZoneDayC) -> ZoneDay {
+    fn from(given: ZoneDayC) -> ZoneDay {
         ZoneDay {
-            hours: zone_day.hours,
-            closed: zone_day.closed != 0,
+            hours: given.hours,
+            closed: given.closed != 0,
+            sold: given.sold,
+            bought: given.bought,
         }
     }
 }

@@ -1,5 +1,5 @@
 -- What an accepted hour and an accepted closing may count on: all that the causes rule out. Assumes nothing.
-use mathlib.Core.Path.{◌≡◌, sym, ap, ◌∙◌}
+use mathlib.Core.Path.{◌≡◌, refl, sym, ap, ◌∙◌}
 use mathlib.Core.Bool.{true, false, ◌&&◌}
 use mathlib.Core.Logic.{◌⊎◌, inl, inr}
 use mathlib.Core.List.{List}
@@ -22,11 +22,12 @@ use Rattle.rules.specs.declared.HourTerms.{HourTerms}
 use Rattle.rules.specs.Limits.{length_least, length_most, threshold_most, users_fit, length_fit, zone_fit, position_fit, upper_fit, lower_fit}
 use Rattle.rules.specs.Days.{users, is_closed, first_place, part}
 use Rattle.rules.specs.Hours.{Hour, Closing}
-use Rattle.rules.specs.Causes.{inputs_cause, hour_cause, closing_cause, day_fit, table_long, list_long, scratch_long, amounts_long, hour_long, judge_long, closing_long, zone_open, hour_next, all_done, positions_fit, table_fit, prices_fit, terms_fit, amounts_fit, pooling_adds, before_fit}
+use Rattle.rules.specs.Causes.{inputs_cause, hour_cause, closing_cause, day_fit, table_long, list_long, scratch_long, amounts_long, hour_long, judge_long, closing_long, zone_open, hour_next, all_done, positions_fit, table_fit, prices_fit, terms_fit, amounts_fit, pooling_adds, before_fit, totals_bounded}
+use Rattle.rules.specs.Market.{hour_sums, closing_sums}
 use Rattle.rules.specs.Refusals.{number}
 use Rattle.rules.specs.Answers.{hour_answer, hour_number, closing_answer, closing_number, number_by}
 use Rattle.rules.specs.Guarantees.{InputsFit, HourFit, ClosingFit}
-use Rattle.rules.proofs.Refusing.{unless_none, required, number_none, number_with_day}
+use Rattle.rules.proofs.Refusing.{unless_none, then_none, required, number_none, number_with_day}
 use Rattle.rules.proofs.Zones.{Zone, zone_of_lem}
 
 -- ---- an hour is accepted if and only if no listed cause exists
@@ -61,11 +62,17 @@ module _ (d : Day) (t : List ℤ) (g : Hour) where
   hour_fit_lem none =
       let (day, n3) = required (day_fit d) _ _ none in
       let (lengths, n4) = required (hour_long d t g) _ _ n3 in
-      record { day = day; lengths = lengths; inputs = inputs_fit_lem n4 }
+      let (inputs, n25) = then_none n4 in
+      record {
+        day = day;
+        lengths = lengths;
+        inputs = inputs_fit_lem inputs;
+        totals = unless_none (totals_bounded g.terms.zone (hour_sums d t g) d) _ n25;
+      }
 
   pub fit_hour : HourFit d t g → hour_cause d t g ≡ Ok tt
   unfolding hour_cause
-  fit_hour f = rw (f.day, f.lengths) (fit_inputs f.inputs)
+  fit_hour f = rw (f.day, f.lengths, fit_inputs f.inputs, f.totals) refl
 
   pub hour_number_lem : hour_number (hour_answer d t g) ≡ number_by number (hour_cause d t g)
   unfolding hour_number hour_answer
@@ -85,6 +92,7 @@ module _ (d : Day) (t : List ℤ) (g : Closing) where
       let (open', n6) = required (zone_open g.terms.zone d) _ _ n5 in
       let (done, n7) = required (all_done d g.terms) _ _ n6 in
       let (table, n8) = required (table_fit d t) _ _ n7 in
+      let (prices, n25) = required (prices_fit g.terms.excess_price g.terms.shortfall_price) _ _ n8 in
       record {
         day = day;
         lengths = lengths;
@@ -92,12 +100,13 @@ module _ (d : Day) (t : List ℤ) (g : Closing) where
         open' = open';
         done = done;
         table = table;
-        prices = unless_none (prices_fit g.terms.excess_price g.terms.shortfall_price) _ n8;
+        prices = prices;
+        totals = unless_none (totals_bounded g.terms.zone (closing_sums d t g) d) _ n25;
       }
 
   pub fit_closing : ClosingFit d t g → closing_cause d t g ≡ Ok tt
   unfolding closing_cause
-  fit_closing f = rw (f.day, f.lengths, f.zone, f.open', f.done, f.table, f.prices)
+  fit_closing f = rw (f.day, f.lengths, f.zone, f.open', f.done, f.table, f.prices, f.totals) refl
 
   pub closing_number_lem : closing_number (closing_answer d t g) ≡ number_by number (closing_cause d t g)
   unfolding closing_number closing_answer

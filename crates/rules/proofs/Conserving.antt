@@ -18,16 +18,16 @@ use Rattle.integers.proofs.Counts.{length-tabulate, get_or-tabulate}
 use Rattle.rules.specs.declared.Cause.{Cause}
 use Rattle.rules.specs.declared.Day.{Day}
 use Rattle.rules.specs.declared.ZoneDay.{ZoneDay}
-use Rattle.rules.specs.Limits.{length_fit}
+use Rattle.rules.specs.Limits.{users_fit, length_fit}
 use Rattle.rules.specs.Refusals.{◌then◌, by_cause}
-use Rattle.rules.specs.Days.{users, hours_of_day, zone_day, hours_done, is_closed, new_day, day_after_hour, day_after_closing, first_place, part, place, onto}
+use Rattle.rules.specs.Days.{users, hours_of_day, zone_day, hours_done, is_closed, total_sold, total_bought, new_day, day_after_hour, day_after_closing, first_place, part, place, onto}
 use Rattle.rules.specs.Hours.{Hour, Closing, amounts, before, standing}
-use Rattle.rules.specs.Market.{after, outcome, sold, bought}
+use Rattle.rules.specs.Market.{after, outcome, sold, bought, hour_imbalance, hour_sums, closing_sums}
 use Rattle.rules.specs.Causes.{open_cause, hour_cause, closing_cause}
-use Rattle.rules.specs.Answers.{with_day, open_answer, open_table, hour_imbalance, hour_answer, hour_table, hour_quantity, hour_day, closing_answer, closing_table, closing_quantity, closing_day}
+use Rattle.rules.specs.Answers.{with_day, open_answer, open_table, hour_answer, hour_table, hour_quantity, hour_day, closing_answer, closing_table, closing_quantity, closing_day}
 use Rattle.rules.specs.History.{Call, hour, closing, State, step, run, hour_accepted, closing_accepted, adds_first, adds_second, first_sum, second_sum, closes_now, closes}
 use Rattle.rules.proofs.Refusing.{unless_none, then_none, cause_of, by_none, by_some, number_is_ok}
-use Rattle.rules.proofs.Zones.{Zone, H, L, length_part, part_changed, part_other, length-onto, get_or-onto, of_both, Keeps, zone_keeps, closed_hour, closed_closing}
+use Rattle.rules.proofs.Zones.{Zone, H, L, length_part, part_changed, part_other, length_with, length-onto, get_or-onto, of_both, Keeps, zone_keeps, closed_hour, closed_closing}
 use Rattle.rules.proofs.Accepted.{users_range, hour_sound, closing_sound, hour_open, closing_open, hour_number_lem, closing_number_lem}
 use Rattle.rules.proofs.Settling.{length-after, after_at}
 
@@ -43,13 +43,17 @@ module _ (d : Day) (t : List ℤ) (g : Hour) (k : hour_cause d t g ≡ Ok tt) wh
       let p = length_part t s.long s.zoned in
       length-onto _ _ (omega (arith, length-after (hour_imbalance d t g) (before d t g), length_before d t g, s.few)) ∙ p
 
-  hour_part : part g.terms.zone (hour_table d t g) ≡ onto (after (hour_imbalance d t g) (before d t g)) (part g.terms.zone t)
+  pub hour_part : part g.terms.zone (hour_table d t g) ≡ onto (after (hour_imbalance d t g) (before d t g)) (part g.terms.zone t)
   unfolding hour_table
   hour_part = ap (part g.terms.zone) (by_none _ _ _ k) ∙ part_changed t (hour_sound d t g k).long _ (hour_sound d t g k).zoned part_long
 
-  hour_other : (y : ℤ) → Zone y → (g.terms.zone ≡ y → ⊥) → part y (hour_table d t g) ≡ part y t
+  pub hour_other : (y : ℤ) → Zone y → (g.terms.zone ≡ y → ⊥) → part y (hour_table d t g) ≡ part y t
   unfolding hour_table
   hour_other y zoned n = ap (part y) (by_none _ _ _ k) ∙ part_other t (hour_sound d t g k).long _ (hour_sound d t g k).zoned zoned n part_long
+
+  pub hour_long_still : length (hour_table d t g) ≡ 256
+  unfolding hour_table
+  hour_long_still = ap length (by_none _ _ _ k) ∙ length_with t (hour_sound d t g k).long _ (hour_sound d t g k).zoned part_long
 
   pub positions_left : take (users d) (part g.terms.zone (hour_table d t g)) ≡ after (hour_imbalance d t g) (before d t g)
   unfolding onto
@@ -67,17 +71,23 @@ module _ (d : Day) (t : List ℤ) (g : Hour) (k : hour_cause d t g ≡ Ok tt) wh
 
 -- ---- an accepted closing
 module _ (d : Day) (t : List ℤ) (g : Closing) (k : closing_cause d t g ≡ Ok tt) where
-  closing_part : part g.terms.zone (closing_table d t g) ≡ replicate 128 (pos 0)
+  pub closing_part : part g.terms.zone (closing_table d t g) ≡ replicate 128 (pos 0)
   unfolding closing_table
   closing_part =
       let s = closing_sound d t g k in
       ap (part g.terms.zone) (by_none _ _ _ k) ∙ part_changed t s.long (λ p. replicate 128 (pos 0)) s.zoned (length-replicate 128 (pos 0))
 
-  closing_other : (y : ℤ) → Zone y → (g.terms.zone ≡ y → ⊥) → part y (closing_table d t g) ≡ part y t
+  pub closing_other : (y : ℤ) → Zone y → (g.terms.zone ≡ y → ⊥) → part y (closing_table d t g) ≡ part y t
   unfolding closing_table
   closing_other y zoned n =
       let s = closing_sound d t g k in
       ap (part y) (by_none _ _ _ k) ∙ part_other t s.long (λ p. replicate 128 (pos 0)) s.zoned zoned n (length-replicate 128 (pos 0))
+
+  pub closing_long_still : length (closing_table d t g) ≡ 256
+  unfolding closing_table
+  closing_long_still =
+      let s = closing_sound d t g k in
+      ap length (by_none _ _ _ k) ∙ length_with t s.long (λ p. replicate 128 (pos 0)) s.zoned (length-replicate 128 (pos 0))
 
   closing_zero : (p : ℕ) → p < 128 → place g.terms.zone p (closing_table d t g) ≡ pos 0
   unfolding place
@@ -88,36 +98,36 @@ module _ (d : Day) (t : List ℤ) (g : Closing) (k : closing_cause d t g ≡ Ok 
   closing_quantity_lem u h = ap (λ (l : List ℤ). get_or l u (pos 0)) (by_none _ _ _ k) ∙ get_or-take (users d) (part g.terms.zone t) u (pos 0) h
 
 -- ---- a call is accepted or refused, and a refused one leaves record and table
-hour_accepted_lem : (s : State) (g : Hour) {c : Result Unit Cause} → hour_cause s.day s.table g ≡ c → hour_accepted s g ≡ is_ok c
+pub hour_accepted_lem : (s : State) (g : Hour) {c : Result Unit Cause} → hour_cause s.day s.table g ≡ c → hour_accepted s g ≡ is_ok c
 unfolding hour_accepted
 hour_accepted_lem s g e = ap (λ (n : ℕ). eqb n 0) (hour_number_lem s.day s.table g) ∙ number_is_ok (hour_cause s.day s.table g) ∙ ap is_ok e
 
-closing_accepted_lem : (s : State) (g : Closing) {c : Result Unit Cause} → closing_cause s.day s.table g ≡ c → closing_accepted s g ≡ is_ok c
+pub closing_accepted_lem : (s : State) (g : Closing) {c : Result Unit Cause} → closing_cause s.day s.table g ≡ c → closing_accepted s g ≡ is_ok c
 unfolding closing_accepted
 closing_accepted_lem s g e = ap (λ (n : ℕ). eqb n 0) (closing_number_lem s.day s.table g) ∙ number_is_ok (closing_cause s.day s.table g) ∙ ap is_ok e
 
-hour_refused : (d : Day) (t : List ℤ) (g : Hour) {k : Cause} → hour_cause d t g ≡ Err k → hour_table d t g ≡ t
+pub hour_refused : (d : Day) (t : List ℤ) (g : Hour) {k : Cause} → hour_cause d t g ≡ Err k → hour_table d t g ≡ t
 unfolding hour_table
 hour_refused d t g k = by_some _ _ _ k
 
-closing_refused : (d : Day) (t : List ℤ) (g : Closing) {k : Cause} → closing_cause d t g ≡ Err k → closing_table d t g ≡ t
+pub closing_refused : (d : Day) (t : List ℤ) (g : Closing) {k : Cause} → closing_cause d t g ≡ Err k → closing_table d t g ≡ t
 unfolding closing_table
 closing_refused d t g k = by_some _ _ _ k
 
-hour_day_lem : (d : Day) (t : List ℤ) (g : Hour) → hour_day (hour_answer d t g) ≡ by_cause (hour_cause d t g) (day_after_hour g.terms.zone d) d
+pub hour_day_lem : (d : Day) (t : List ℤ) (g : Hour) → hour_day (hour_answer d t g) ≡ by_cause (hour_cause d t g) (day_after_hour g.terms.zone (hour_sums d t g) d) d
 unfolding hour_answer hour_day by_cause
 hour_day_lem d t g = go (hour_cause d t g)
   where
-    go : (c : Result Unit Cause) → hour_day (with_day d c then Ok (record { day = day_after_hour g.terms.zone d; outcome = outcome (hour_imbalance d t g) (before d t g) })) ≡ by_cause c (day_after_hour g.terms.zone d) d
+    go : (c : Result Unit Cause) → hour_day (with_day d c then Ok (record { day = day_after_hour g.terms.zone (hour_sums d t g) d; outcome = outcome (hour_imbalance d t g) (before d t g) })) ≡ by_cause c (day_after_hour g.terms.zone (hour_sums d t g) d) d
     go (Ok u) = refl
     go (Err k) = refl
 
-closing_day_lem : (d : Day) (t : List ℤ) (g : Closing)
-    → closing_day (closing_answer d t g) ≡ by_cause (closing_cause d t g) (day_after_closing g.terms.zone d) d
+pub closing_day_lem : (d : Day) (t : List ℤ) (g : Closing)
+    → closing_day (closing_answer d t g) ≡ by_cause (closing_cause d t g) (day_after_closing g.terms.zone (closing_sums d t g) d) d
 unfolding closing_answer closing_day by_cause
 closing_day_lem d t g = go (closing_cause d t g)
   where
-    go : (c : Result Unit Cause) → closing_day (with_day d c then Ok (record { day = day_after_closing g.terms.zone d; sold = sold (standing d t g); bought = bought (standing d t g) })) ≡ by_cause c (day_after_closing g.terms.zone d) d
+    go : (c : Result Unit Cause) → closing_day (with_day d c then Ok (record { day = day_after_closing g.terms.zone (closing_sums d t g) d; sold = sold (standing d t g); bought = bought (standing d t g) })) ≡ by_cause c (day_after_closing g.terms.zone (closing_sums d t g) d) d
     go (Ok u) = refl
     go (Err k) = refl
 
@@ -127,14 +137,14 @@ unfolding by_cause
 by_keeps (Ok u) e d h = h
 by_keeps (Err k) e d h = record { users = refl; length = refl }
 
-step_keeps : (s : State) (c : Call) → Keeps (step s c).day s.day
+pub step_keeps : (s : State) (c : Call) → Keeps (step s c).day s.day
 unfolding step day_after_hour day_after_closing
 step_keeps s (hour g) =
     subst (λ (d : Day). Keeps d s.day) (sym (hour_day_lem s.day s.table g)) (by_keeps _ _ _ (zone_keeps g.terms.zone _ s.day))
 step_keeps s (closing g) =
     subst (λ (d : Day). Keeps d s.day) (sym (closing_day_lem s.day s.table g)) (by_keeps _ _ _ (zone_keeps g.terms.zone _ s.day))
 
-users-step : (s : State) (c : Call) → users (step s c).day ≡ users s.day
+pub users-step : (s : State) (c : Call) → users (step s c).day ≡ users s.day
 unfolding users
 users-step s c = ap natural (step_keeps s c).users
 
@@ -210,9 +220,12 @@ module _ (n len : ℤ) (t : List ℤ) where
   opened_by d e = let (k, q) = then_none e in (k, cc)
 
   module _ (k : open_cause n len t ≡ Ok tt) where
-    pub open_users : natural n ≤ 128
+    pub open_fit : users_fit n ≡ true
     unfolding open_cause
-    open_users = (users_range n (unless_none _ _ (then_none k).0)).1
+    open_fit = unless_none _ _ (then_none k).0
+
+    pub open_users : natural n ≤ 128
+    open_users = (users_range n open_fit).1
 
     pub open_length : length_fit len ≡ true
     unfolding open_cause
@@ -230,7 +243,7 @@ zero_place L p h = get_or-replicate 128 p (pos 0) (pos 0) h
 pub open_zero : (n len : ℤ) (t : List ℤ) → open_cause n len t ≡ Ok tt → {zone : ℤ} → Zone zone → (p : ℕ) → p < 128 → place zone p (open_table n len t) ≡ pos 0
 open_zero n len t k {zone} zoned p h = ap (place zone p) (open_table_lem n len t k) ∙ zero_place zoned p h
 
--- whichever zone: no hours done, and not closed
+-- whichever zone: no hours done, not closed, and nothing sold or bought
 module _ (zone n len : ℤ) where
   by_zone : {A : Type 0} (f : ZoneDay → A) (a : A) → f (new_day n len).h ≡ a → f (new_day n len).l ≡ a → f (zone_day zone (new_day n len)) ≡ a
   unfolding zone_day
@@ -243,6 +256,14 @@ module _ (zone n len : ℤ) where
   pub new_open : is_closed zone (new_day n len) ≡ false
   unfolding new_day is_closed
   new_open = by_zone (λ z. z.closed) false refl refl
+
+  pub new_sold : total_sold zone (new_day n len) ≡ pos 0
+  unfolding new_day total_sold
+  new_sold = by_zone (λ z. z.sold) (pos 0) refl refl
+
+  pub new_bought : total_bought zone (new_day n len) ≡ pos 0
+  unfolding new_day total_bought
+  new_bought = by_zone (λ z. z.bought) (pos 0) refl refl
 
 -- ---- a closed zone
 clash : (d : Day) (y z : ℤ) → is_closed y d ≡ false → is_closed z d ≡ true → y ≡ z → ⊥
@@ -257,7 +278,7 @@ marked_step zone zoned s (hour g) = go (cause_of (hour_cause s.day s.table g))
         → is_closed zone (hour_day (hour_answer s.day s.table g)) ≡ (is_closed zone s.day || false)
     go (inl k) =
         ap (is_closed zone) (hour_day_lem s.day s.table g ∙ by_none _ _ _ k)
-        ∙ closed_hour zone g.terms.zone s.day zoned (hour_sound s.day s.table g k).zoned ∙ sym (or-false _)
+        ∙ closed_hour zone g.terms.zone _ s.day zoned (hour_sound s.day s.table g k).zoned ∙ sym (or-false _)
     go (inr k) = ap (is_closed zone) (hour_day_lem s.day s.table g ∙ by_some _ _ _ k.1) ∙ sym (or-false _)
 marked_step zone zoned s (closing g) = go (cause_of (closing_cause s.day s.table g))
   where
@@ -268,7 +289,7 @@ marked_step zone zoned s (closing g) = go (cause_of (closing_cause s.day s.table
         → is_closed zone (closing_day (closing_answer s.day s.table g)) ≡ now (closing_accepted s g)
     go (inl k) =
         ap (is_closed zone) (closing_day_lem s.day s.table g ∙ by_none _ _ _ k)
-        ∙ closed_closing zone g.terms.zone s.day zoned (closing_sound s.day s.table g k).zoned
+        ∙ closed_closing zone g.terms.zone _ s.day zoned (closing_sound s.day s.table g k).zoned
         ∙ ap now (sym (closing_accepted_lem s g k))
     go (inr k) =
         ap (is_closed zone) (closing_day_lem s.day s.table g ∙ by_some _ _ _ k.1) ∙ sym (or-false _)

@@ -1,13 +1,14 @@
 -- The theorems of specs/Guarantees.antt. Assumes nothing.
-use mathlib.Core.Path.{◌≡◌, sym, ap, ◌∙◌, subst}
-use mathlib.Core.Bool.{Bool, false, ◌||◌}
+use mathlib.Core.Path.{◌≡◌, refl, sym, ap, ◌∙◌, subst}
+use mathlib.Core.Bool.{Bool, true, false, ◌||◌}
 use mathlib.Core.List.{List}
 use Prim.Native.Nat.{ℕ, ◌≤◌, ◌<◌}
 use native.Mathlib.Omega.{arith}
-use lib.IntN.{ℤ, pos, ◌+ℤ◌, +ℤ_idr}
+use lib.IntN.{ℤ, pos, ◌+ℤ◌, +ℤ_idl, +ℤ_idr}
 use lib.ListN.{length, get_or, length-map, get_or-map}
 use Rattle.std.specs.Prelude.{Ok}
 use Rattle.integers.specs.Lists.{sum_ℤ}
+use Rattle.integers.proofs.Linear.{not_both}
 use Rattle.integers.proofs.Counts.{count_map}
 use Rattle.rules.specs.declared.Day.{Day}
 use Rattle.rules.specs.declared.HourDone.{HourDone}
@@ -15,15 +16,15 @@ use Rattle.rules.specs.declared.Marks.{Marks}
 use Rattle.rules.specs.declared.Side.{Side}
 use Rattle.rules.specs.declared.Outcome.{Outcome}
 use Rattle.rules.specs.declared.Outcome.TheVariants.{Settled}
-use Rattle.rules.specs.Days.{users, hours_of_day, zone_day, is_closed, new_day}
+use Rattle.rules.specs.Days.{users, hours_of_day, zone_day, is_closed, total_sold, total_bought, new_day}
 use Rattle.rules.specs.Hours.{Hour, before}
 use Rattle.rules.specs.Refusals.{number}
-use Rattle.rules.specs.Market.{Imbalance, within, excess, shortfall, imbalance, caused, causers, marks, outcome}
+use Rattle.rules.specs.Market.{Imbalance, within, excess, shortfall, imbalance, caused, causers, marks, outcome, sold, bought, hour_imbalance}
 use Rattle.rules.specs.Causes.{hour_cause, before_fit}
-use Rattle.rules.specs.Answers.{hour_answer, hour_imbalance, hour_quantity, number_by}
+use Rattle.rules.specs.Answers.{open_answer, hour_answer, hour_quantity, number_by}
 use Rattle.rules.specs.Judging.{judge_number}
-use Rattle.rules.specs.History.{opened, first_sum, closes}
-use Rattle.rules.specs.Guarantees.{BeginsAtZero, LengthKept, AcceptedIfFit, Conservation, ClosedIsZero, ClosedIsMarked, Accuracy, OutcomeByThresholds, MarksAreCausers, AsSettlingACopy, AcceptedIfRight, OwnAccepted, AcceptedKeeps}
+use Rattle.rules.specs.History.{Call, opened, run, passed_on, first_sum, closes, all_answered}
+use Rattle.rules.specs.Guarantees.{BeginsAtZero, LengthKept, AcceptedIfFit, Conservation, ClosedIsZero, ClosedIsMarked, TotalsAreSums, NeverBy, OnlyAlteredPasses, OwnDayFits, Accuracy, OutcomeByThresholds, MarksAreCausers, AsSettlingACopy, AcceptedIfRight, OwnAccepted, AcceptedKeeps}
 use Rattle.rules.proofs.Refusing.{by_none, with_day_none}
 use Rattle.rules.proofs.Zones.{zone_of_lem}
 use Rattle.rules.proofs.Accepted.{length_of, hour_fit_lem, fit_hour, hour_sound, hour_number_lem, hour_none, closing_fit, fit_closing, closing_number_lem, closing_none, thresholds_sound}
@@ -32,7 +33,10 @@ use Rattle.rules.proofs.Settling.{view, kept, settles}
 use Rattle.rules.proofs.Telling.{tells}
 use Rattle.rules.proofs.Previewing.{as_a_copy, turned_away}
 use Rattle.rules.proofs.Judging.{judged_long, hour_view, accepted_right, right_accepted, judged_read, own_judged}
-use Rattle.rules.proofs.Conserving.{length_before, positions_left, length_run, balance, opened_by, open_users, open_length, open_table_lem, open_zero, new_hours, new_open, marked-run, closed_zero}
+use Rattle.rules.proofs.Carrying.{added_run}
+use Rattle.rules.proofs.Owning.{Own, own_table, own_passed_on, own_run, own_day_opened, own_opened}
+use Rattle.rules.proofs.Sparing.{never}
+use Rattle.rules.proofs.Conserving.{length_before, positions_left, length_run, balance, opened_by, open_users, open_length, open_table_lem, open_zero, new_hours, new_open, new_sold, new_bought, marked-run, closed_zero}
 
 pub begins_at_zero : BeginsAtZero
 begins_at_zero n len t d e = let (k, q) = opened_by n len t d e in (open_table_lem n len t k, λ zone. rw q (new_hours zone n len))
@@ -62,11 +66,50 @@ conservation n len t d e calls zone z user h =
 pub closed_is_zero : ClosedIsZero
 closed_is_zero s calls zone z c p h = closed_zero zone (zone_of_lem zone z) s calls c p h
 
+-- every day that opening opened is one of our own, whatever is then called
+own : (n len : ℤ) (t : List ℤ) (d : Day) → open_answer n len t ≡ Ok d → (calls : List Call) → Own (run (opened d n len t) calls)
+own n len t d e calls =
+    let (k, q) = opened_by n len t d e in
+    own_run (opened d n len t) calls (rw q (own_opened n len t k))
+
 pub closed_is_marked : ClosedIsMarked
 unfolding opened new_day is_closed zone_day
 closed_is_marked n len t d e calls zone z =
     marked-run zone (zone_of_lem zone z) (opened d n len t) calls
     ∙ ap (λ (b : Bool). b || closes zone (opened d n len t) calls) (ap (is_closed zone) (opened_by n len t d e).1 ∙ new_open zone n len)
+
+-- ---- the totals
+
+pub totals_are_sums : TotalsAreSums
+unfolding opened total_sold total_bought
+totals_are_sums n len t d e calls zone z =
+    let (k, q) = opened_by n len t d e in
+    let added = added_run zone (zone_of_lem zone z) (opened d n len t) calls in
+    let all = all_answered zone (opened d n len t) calls in (
+      added.sold ∙ ap (λ (x : ℤ). x +ℤ sold all) (ap (total_sold zone) q ∙ new_sold zone n len) ∙ +ℤ_idl (sold all),
+      added.bought ∙ ap (λ (x : ℤ). x +ℤ bought all) (ap (total_bought zone) q ∙ new_bought zone n len) ∙ +ℤ_idl (bought all),
+    )
+
+pub only_altered_passes : OnlyAlteredPasses
+only_altered_passes n len t d e = (passed, altered)
+  where
+    -- of a table that may be any nothing is told
+    told : {A : Type 0} → false ≡ true → A
+    told f = not_both (sym f)
+
+    passed : (calls : List Call) → NeverBy 25 (run (opened d n len t) calls)
+    passed calls = never false (own n len t d e calls).day' _ told 25 refl
+
+    altered : (calls : List (List ℤ × Call)) (table : List ℤ) → NeverBy 25 (record { day = passed_on d calls; table = table })
+    altered calls table =
+        let (k, q) = opened_by n len t d e in
+        never false (own_passed_on d calls (rw q (own_day_opened n len t k))) table told 25 refl
+
+pub own_day_fits : OwnDayFits
+own_day_fits n len t d e calls =
+    let o = own n len t d e calls in
+    let fits = never true o.day' _ (λ _. own_table o) in
+    (fits 2 refl, fits 7 refl)
 
 pub accuracy : Accuracy
 unfolding hour_imbalance hour_quantity before_fit

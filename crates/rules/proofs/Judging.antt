@@ -16,9 +16,9 @@ use Rattle.rules.specs.declared.Day.{Day}
 use Rattle.rules.specs.Days.{users}
 use Rattle.rules.specs.Hours.{Hour, inputs_of, amounts, before}
 use Rattle.rules.specs.Refusals.{number}
-use Rattle.rules.specs.Market.{Imbalance, imbalance, total, caused, sizes, signed, quantities}
+use Rattle.rules.specs.Market.{Imbalance, imbalance, total, caused, sizes, signed, quantities, hour_imbalance}
 use Rattle.rules.specs.Causes.{day_fit, table_long, list_long, amounts_long, hour_long, judge_long, amounts_fit, pooling_adds, before_fit, inputs_cause, hour_cause, judge_inputs_cause}
-use Rattle.rules.specs.Answers.{hour_imbalance, hour_quantity, number_by}
+use Rattle.rules.specs.Answers.{hour_quantity, number_by}
 use Rattle.rules.specs.Judging.{each_user, sign_right, near, share_right, sum_right, quantities_cause, judge_cause, judge_answer, judge_number}
 use Rattle.rules.specs.Guarantees.{JudgeFit, Near, Right}
 use Rattle.rules.proofs.Refusing.{required, unless_none, then_none, by_none, number_none, number_with_day}
@@ -134,7 +134,7 @@ module _ (d : Day) (t : List ℤ) (g : Hour) (qs : List ℤ) where
   unfolding judge_inputs_cause
   judged_inputs f = rw (f.day, f.lengths) (fit_inputs d t g f.inputs)
 
-  judge_number_lem : judge_number (judge_answer d t g qs) ≡ number_by number (judge_cause d t g qs)
+  pub judge_number_lem : judge_number (judge_answer d t g qs) ≡ number_by number (judge_cause d t g qs)
   unfolding judge_number judge_answer
   judge_number_lem = number_with_day d (judge_cause d t g qs) _
 

@@ -1,5 +1,5 @@
 -- Laws of causes: what no cause says of the tests, and what is answered by a cause. Assumes nothing.
-use mathlib.Core.Path.{◌≡◌, refl}
+use mathlib.Core.Path.{◌≡◌, refl, sym, ap, ◌∙◌}
 use mathlib.Core.Bool.{Bool, true, false}
 use mathlib.Core.Logic.{◌⊎◌, inl, inr}
 use Prim.Native.Nat.{ℕ, ◌<◌}
@@ -11,6 +11,7 @@ use Rattle.std.specs.Result.{is_ok}
 use Rattle.rules.specs.declared.Cause.{Cause}
 use Rattle.rules.specs.declared.Cause.TheVariants as cause
 use Rattle.rules.specs.declared.Day.{Day}
+use Rattle.rules.specs.declared.Refusal.{Refusal}
 use Rattle.rules.specs.Refusals.{number, unless, ◌then◌, by_cause}
 use Rattle.rules.specs.Answers.{with_day, number_by}
 
@@ -26,6 +27,20 @@ unless_none false k e = absurd (not_refused e)
 pub then_none : {A E : Type 0} {c : Result Unit E} {r : Result A E} {a : A} → (c then r) ≡ Ok a → (c ≡ Ok tt) × (r ≡ Ok a)
 then_none {c = Ok u} e = (refl, e)
 then_none {c = Err k} e = absurd (not_refused e)
+
+-- what is answered by no cause, and the cause where there is one
+pub then_ok : {A E : Type 0} {c : Result Unit E} {a b : A} → (c then Ok a) ≡ Ok b → (c ≡ Ok tt) × (a ≡ b)
+then_ok {c = Ok u} e = (refl, cc)
+then_ok {c = Err k} e = absurd (not_refused e)
+
+pub then_err : {A E : Type 0} (c : Result Unit E) (a : A) {k : E} → (c then Ok a) ≡ Err k → c ≡ Err k
+then_err (Ok u) a e = absurd (not_refused (sym e))
+then_err (Err j) a e = ap Err cc
+
+-- of three, the first of the first two and then the third is the first and then those of the other two
+pub then_assoc : {A E : Type 0} (c r : Result Unit E) (s : Result A E) → ((c then r) then s) ≡ (c then r then s)
+then_assoc (Ok u) r s = refl
+then_assoc (Err k) r s = refl
 
 -- a test that was required held
 pub required : {A E : Type 0} (b : Bool) (k : E) (r : Result A E) {a : A} → (unless b k then r) ≡ Ok a → (b ≡ true) × (r ≡ Ok a)
@@ -51,6 +66,17 @@ pub with_day_none : {A : Type 0} (d : Day) {c : Result Unit Cause} {r : A} {a : 
 with_day_none d {c = Ok u} e = (refl, cc)
 with_day_none d {c = Err k} e = absurd (not_refused e)
 
+-- what is answered with the record where there is a cause
+pub with_day_ok : {A : Type 0} (d : Day) {c : Result A Cause} {a : A} → with_day d c ≡ Ok a → c ≡ Ok a
+with_day_ok d {c = Ok b} e = ap Ok cc
+with_day_ok d {c = Err k} e = absurd (not_refused e)
+
+pub with_day_err : {A : Type 0} (d : Day) (c : Result A Cause) {r : Refusal} → with_day d c ≡ Err r → (c ≡ Err r.cause) × (r ≡ record { cause = r.cause; day = d })
+with_day_err d (Ok a) e = absurd (not_refused (sym e))
+with_day_err d (Err k) {r} e =
+    let is : r ≡ record { cause = k; day = d } = cc in
+    (ap Err (sym (ap (λ (x : Refusal). x.cause) is)), is ∙ ap (λ (j : Cause). record { cause = j; day = d }) (sym (ap (λ (x : Refusal). x.cause) is)))
+
 -- ---- the number of a cause, and of an answer
 
 pub number_some : (k : Cause) → 0 < number k
@@ -69,6 +95,7 @@ number_some cause.DayLength = lit< tt
 number_some cause.Signs = lit< tt
 number_some cause.Shares = lit< tt
 number_some cause.Sum = lit< tt
+number_some cause.Totals = lit< tt
 
 pub number_none : (c : Result Unit Cause) → number_by number c ≡ 0 → c ≡ Ok tt
 number_none (Ok u) e = refl

@@ -437,6 +437,15 @@ module _ (upper lower : ℤ) (ps : List ℤ) (top : le_z (pos 0) upper ≡ true)
     near = λ u. near_own u w;
   }
 
+  -- and no larger than the positions
+  pub own_small : {i : Imbalance} → View upper lower (sum_ℤ ps) i → AtMost position_most (quantities i ps)
+  own_small {i} w = record { at = at }
+    where
+      at : (u : ℕ) → nat_abs (get_or (quantities i ps) u (pos 0)) ≤ position_most
+      at u =
+          let own = no_more_than_own i _ _ _ (total_enough w) (only_own u w) (near_own u w) in
+          omega (arith, own, size-le i (get_or ps u (pos 0)), (positions_small ps fit).at u)
+
   pub settles : Accurate upper lower (imbalance upper lower ps) ps (quantities (imbalance upper lower ps) ps) (after (imbalance upper lower ps) ps)
   unfolding imbalance after
   settles =

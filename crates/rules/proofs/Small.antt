@@ -22,6 +22,7 @@ use Rattle.rules.specs.Limits.{
   title_most,
   pooling_most,
   position_most,
+  total_most,
   threshold_most,
   price_most,
   entry_fit,
@@ -29,6 +30,7 @@ use Rattle.rules.specs.Limits.{
   title_fit,
   pooling_fit,
   position_fit,
+  total_fit,
   upper_fit,
   lower_fit,
   price_fit,
@@ -49,6 +51,11 @@ below n x e = range_size n (neg_ℤ (pos n)) (pos 0) x (omega (arith, size-neg (
 pub length_small : (hours : ℤ) → length_fit hours ≡ true → nat_abs hours ≤ length_most
 unfolding length_fit
 length_small hours e = range_size length_most (pos length_least) (pos length_most) hours (lit≤ tt) (le_refl length_most) e
+
+-- ---- a zone's totals
+pub total_small : (kwh : ℤ) → total_fit kwh ≡ true → nat_abs kwh ≤ total_most
+unfolding total_fit
+total_small = above total_most
 
 -- ---- positions and amounts
 pub position_small : (kwh : ℤ) → position_fit kwh ≡ true → nat_abs kwh ≤ position_most

@@ -1,20 +1,24 @@
 -- The two zones: their parts of the table, and their parts of the record. Assumes nothing.
 use mathlib.Core.Path.{◌≡◌, refl, sym, ap, ◌∙◌}
-use mathlib.Core.Bool.{Bool, true, false, cond, ◌||◌, or-true, or-false}
+use mathlib.Core.Bool.{Bool, true, false, cond, ◌&&◌, ◌||◌, or-true, or-false}
 use mathlib.Core.List.{List, ◌++◌}
 use Prim.Native.Nat.{ℕ, zero, suc, ◌≤◌, ◌<◌}
 use native.Mathlib.Omega.{arith}
 use borrow.Author.Tests.{leb-true}
 use lib.Dec.{leb}
 use lib.IntN.{ℤ, pos, negsuc}
-use lib.ListN.{length, get_or, take, drop, length-append, length-take, length-drop, get_or-append}
-use lib.Seq.{take_at, drop_at, drop-drop, length-take-le}
+use lib.ListN.{length, get_or, take, drop, length-append, length-take, length-drop, get_or-append, take-append-drop}
+use lib.Seq.{take_all, take_at, drop_at, drop-drop, length-take-le}
 use Rattle.integers.specs.Ranges.{equal, is_zero}
+use Rattle.integers.specs.Lists.{every}
+use Rattle.integers.proofs.Passes.{every_append}
+use Rattle.rules.specs.Causes.{positions_fit}
 use Rattle.integers.proofs.Linear.{not_both}
 use Rattle.integers.proofs.Tests.{and_true}
 use Rattle.rules.specs.declared.Day.{Day}
+use Rattle.rules.specs.declared.Sums.{Sums}
 use Rattle.rules.specs.declared.ZoneDay.{ZoneDay}
-use Rattle.rules.specs.Limits.{zone_fit}
+use Rattle.rules.specs.Limits.{zone_fit, position_fit}
 use Rattle.rules.specs.Days.{zone_day, is_closed, with_zone_day, hour_more, closed_now, day_after_hour, day_after_closing, first_place, part, with_part, onto}
 
 pub data Zone : ℤ → Type 0 where
@@ -71,6 +75,19 @@ module _ (t : List ℤ) (long : length t ≡ 256) where
     part_other L H n l = take_at (take 128 t) (f (take 128 (drop 128 t)) ++ drop 256 t) 128 (length-take-le 128 t (omega arith))
     part_other L L n l = absurd (n refl)
 
+    -- and the table is as long as it was
+    pub length_with : {z : ℤ} → Zone z → length (f (part z t)) ≡ 128 → length (with_part z f t) ≡ 256
+    unfolding with_part part first_place
+    length_with H l = simp (length-append, length-drop) (omega (arith, l))
+    length_with L l = simp (length-append, length-take, length-drop) (omega (arith, l))
+
+-- a test of every place is that of every place of both parts
+pub parts_fit : (t : List ℤ) → length t ≡ 256 → positions_fit t ≡ (every position_fit (part (pos 0) t) && every position_fit (part (pos 1) t))
+unfolding positions_fit part first_place
+parts_fit t long =
+    rw (take_all 128 (drop 128 t) (simp length-drop (omega arith)))
+    (ap (every position_fit) (sym (take-append-drop 128 t)) ∙ every_append position_fit (take 128 t) (drop 128 t))
+
 -- a part with its first places replaced
 pub length-onto : (xs p : List ℤ) → length xs ≤ length p → length (onto xs p) ≡ length p
 unfolding onto
@@ -96,17 +113,26 @@ pub zone_keeps : (z : ℤ) (f : ZoneDay → ZoneDay) (d : Day) → Keeps (with_z
 unfolding with_zone_day
 zone_keeps z f d = of_both (λ (e : Day). Keeps e d) (is_zero z) (record { users = refl; length = refl }) (record { users = refl; length = refl })
 
--- an hour leaves the marks of both zones, and a closing marks its zone
-pub closed_hour : (y z : ℤ) (d : Day) → Zone y → Zone z → is_closed y (day_after_hour z d) ≡ is_closed y d
-unfolding day_after_hour hour_more with_zone_day is_closed zone_day
-closed_hour y z d H H = refl
-closed_hour y z d H L = refl
-closed_hour y z d L H = refl
-closed_hour y z d L L = refl
+-- the zone's part is changed, and the other is as it was
+pub zone_day_with : (y z : ℤ) (f : ZoneDay → ZoneDay) (d : Day) → Zone y → Zone z
+    → zone_day y (with_zone_day z f d) ≡ cond (equal z y) (f (zone_day y d)) (zone_day y d)
+unfolding with_zone_day zone_day
+zone_day_with y z f d H H = refl
+zone_day_with y z f d H L = refl
+zone_day_with y z f d L H = refl
+zone_day_with y z f d L L = refl
 
-pub closed_closing : (y z : ℤ) (d : Day) → Zone y → Zone z → is_closed y (day_after_closing z d) ≡ (is_closed y d || equal z y)
+-- an hour leaves the marks of both zones, and a closing marks its zone
+pub closed_hour : (y z : ℤ) (s : Sums) (d : Day) → Zone y → Zone z → is_closed y (day_after_hour z s d) ≡ is_closed y d
+unfolding day_after_hour hour_more with_zone_day is_closed zone_day
+closed_hour y z s d H H = refl
+closed_hour y z s d H L = refl
+closed_hour y z s d L H = refl
+closed_hour y z s d L L = refl
+
+pub closed_closing : (y z : ℤ) (s : Sums) (d : Day) → Zone y → Zone z → is_closed y (day_after_closing z s d) ≡ (is_closed y d || equal z y)
 unfolding day_after_closing closed_now with_zone_day is_closed zone_day
-closed_closing y z d H H = sym (or-true d.h.closed)
-closed_closing y z d H L = sym (or-false d.h.closed)
-closed_closing y z d L H = sym (or-false d.l.closed)
-closed_closing y z d L L = sym (or-true d.l.closed)
+closed_closing y z s d H H = sym (or-true d.h.closed)
+closed_closing y z s d H L = sym (or-false d.h.closed)
+closed_closing y z s d L H = sym (or-false d.l.closed)
+closed_closing y z s d L L = sym (or-true d.l.closed)

@@ -10,12 +10,12 @@ use Rattle.rules.specs.Refusals.{number, ◌then◌, by_cause}
 use Rattle.rules.specs.Days.{new_day, day_after_hour, day_after_closing, with_part, onto}
 use Rattle.rules.specs.Thresholds.{upper_default, lower_default}
 use Rattle.rules.specs.Hours.{Hour, Closing, before, standing}
-use Rattle.rules.specs.Market.{Imbalance, imbalance, quantities, after, moneys, outcome, sold, bought}
+use Rattle.rules.specs.Market.{after, moneys, outcome, sold, bought, hour_imbalance, hour_quantities, hour_sums, closing_sums}
 use Rattle.rules.specs.Causes.{open_cause, thresholds_cause, hour_cause, preview_cause, closing_cause}
 
 -- A refusal of an hour, a preview, the judge or a closing returns its cause and the record as it was given.
-abbrev pub with_day : Day → Result Unit Cause → Result Unit Refusal
-with_day d (Ok u) = Ok u
+abbrev pub with_day : {A : Type 0} → Day → Result A Cause → Result A Refusal
+with_day d (Ok a) = Ok a
 with_day d (Err k) = Err (record { cause = k; day = d })
 
 -- ---- opening: "sets all 256 places to zero and answers a record with no hours done and no zone closed"
@@ -33,27 +33,21 @@ thresholds_answer month zone =
 
 -- ---- an hour
 module _ (d : Day) (t : List ℤ) (g : Hour) where
-  unfoldable pub hour_imbalance : Imbalance
-  hour_imbalance = imbalance g.terms.upper g.terms.lower (before d t g)
-
   unfoldable pub hour_answer : Result HourDone Refusal
   hour_answer =
       with_day d (hour_cause d t g)
-      then Ok (record { day = day_after_hour g.terms.zone d; outcome = outcome hour_imbalance (before d t g) })
+      then Ok (record { day = day_after_hour g.terms.zone (hour_sums d t g) d; outcome = outcome (hour_imbalance d t g) (before d t g) })
 
   -- "the users' places in the zone's part of the table get the positions after"
   unfoldable pub hour_table : List ℤ
-  hour_table = by_cause (hour_cause d t g) (with_part g.terms.zone (onto (after hour_imbalance (before d t g))) t) t
+  hour_table = by_cause (hour_cause d t g) (with_part g.terms.zone (onto (after (hour_imbalance d t g) (before d t g))) t) t
 
   -- "The quantity list and the money list get one number per user"
   unfoldable pub hour_quantity : List ℤ
-  hour_quantity = by_cause (hour_cause d t g) (quantities hour_imbalance (before d t g)) g.quantity
+  hour_quantity = by_cause (hour_cause d t g) (hour_quantities d t g) g.quantity
 
   unfoldable pub hour_money : List ℤ
-  hour_money =
-      by_cause (hour_cause d t g)
-      (moneys g.terms.excess_price g.terms.shortfall_price (quantities hour_imbalance (before d t g)))
-      g.money
+  hour_money = by_cause (hour_cause d t g) (moneys g.terms.excess_price g.terms.shortfall_price (hour_quantities d t g)) g.money
 
   -- "The accepted call sets its scratch (one unsigned 64-bit place per user) to zero."
   unfoldable pub hour_scratch : List ℕ
@@ -68,13 +62,10 @@ module _ (d : Day) (t : List ℤ) (g : Hour) (lent : List ℤ) where
       then Ok (record { day = d; outcome = outcome (hour_imbalance d t g) (before d t g) })
 
   unfoldable pub preview_quantity : List ℤ
-  preview_quantity = by_cause (preview_cause d t g lent) (quantities (hour_imbalance d t g) (before d t g)) g.quantity
+  preview_quantity = by_cause (preview_cause d t g lent) (hour_quantities d t g) g.quantity
 
   unfoldable pub preview_money : List ℤ
-  preview_money =
-      by_cause (preview_cause d t g lent)
-      (moneys g.terms.excess_price g.terms.shortfall_price (quantities (hour_imbalance d t g) (before d t g)))
-      g.money
+  preview_money = by_cause (preview_cause d t g lent) (moneys g.terms.excess_price g.terms.shortfall_price (hour_quantities d t g)) g.money
 
   -- "the positions after go to a list of exactly the user count"
   unfoldable pub preview_after : List ℤ
@@ -89,7 +80,7 @@ module _ (d : Day) (t : List ℤ) (g : Closing) where
   unfoldable pub closing_answer : Result ClosingDone Refusal
   closing_answer =
       with_day d (closing_cause d t g)
-      then Ok (record { day = day_after_closing g.terms.zone d; sold = sold (standing d t g); bought = bought (standing d t g) })
+      then Ok (record { day = day_after_closing g.terms.zone (closing_sums d t g) d; sold = sold (standing d t g); bought = bought (standing d t g) })
 
   -- "The places become zero"
   unfoldable pub closing_table : List ℤ

@@ -9,17 +9,29 @@ use Rattle.rules.specs.declared.Cause.TheVariants as cause
 use Rattle.rules.specs.declared.Day.{Day}
 use Rattle.rules.specs.declared.HourTerms.{HourTerms}
 use Rattle.rules.specs.declared.ClosingTerms.{ClosingTerms}
-use Rattle.rules.specs.Limits.{users_fit, length_fit, zone_fit, entry_fit, exit_fit, title_fit, pooling_fit, position_fit, upper_fit, lower_fit, price_fit, month_fit}
-use Rattle.rules.specs.Days.{users, hours_of_day, hours_done, is_closed, part}
+use Rattle.rules.specs.declared.Sums.{Sums}
+use Rattle.rules.specs.Limits.{users_fit, length_fit, zone_fit, entry_fit, exit_fit, title_fit, pooling_fit, position_fit, total_most, total_fit, upper_fit, lower_fit, price_fit, month_fit}
+use Rattle.rules.specs.Days.{users, hours_of_day, hours_done, is_closed, total_sold, total_bought, part}
 use Rattle.rules.specs.Hours.{Hour, Closing, before}
+use Rattle.rules.specs.Market.{hour_sums, closing_sums}
 use Rattle.rules.specs.Refusals.{unless, ◌then◌}
 
 -- ---- 2: "record's user count not 1 to 128, hours not 0 to 24, or a zone closed with fewer than 24"; document 02: "cause 2 also covers a record with another length"
 unfoldable pub zone_day_fit : ℤ → Day → Bool
 zone_day_fit zone d = in_range (pos 0) (hours_of_day d) (hours_done zone d) && (not (is_closed zone d) || le_z (hours_of_day d) (hours_done zone d))
 
+-- document 02: "Cause 2 also covers a zone with no hours done whose totals are not zero, and a total below zero or above 332,800,000,000."
+unfoldable pub totals_fit : ℤ → Day → Bool
+totals_fit zone d =
+    (not (is_zero (hours_done zone d)) || (is_zero (total_sold zone d) && is_zero (total_bought zone d)))
+    && (total_fit (total_sold zone d) && total_fit (total_bought zone d))
+
 unfoldable pub day_fit : Day → Bool
-day_fit d = users_fit d.users && (length_fit (hours_of_day d) && (zone_day_fit (pos 0) d && zone_day_fit (pos 1) d))
+day_fit d =
+    users_fit d.users
+    && (length_fit (hours_of_day d)
+    && ((zone_day_fit (pos 0) d && zone_day_fit (pos 1) d)
+    && (totals_fit (pos 0) d && totals_fit (pos 1) d)))
 
 -- ---- 3: "table not of 256 places, or a list or the scratch not of exactly the user count"
 unfoldable pub table_long : List ℤ → Bool
@@ -93,6 +105,10 @@ pooling_adds g = is_zero (sum_ℤ g.pooling)
 unfoldable pub before_fit : Day → List ℤ → Hour → Bool
 before_fit d t g = every position_fit (before d t g)
 
+-- ---- 25: document 02: "if a total would pass the bound": one of the call's zone, with what the call sells and buys
+unfoldable pub totals_bounded : ℤ → Sums → Day → Bool
+totals_bounded zone s d = le_z (total_sold zone d +ℤ s.sold) (pos total_most) && le_z (total_bought zone d +ℤ s.bought) (pos total_most)
+
 -- ---- the first cause of each call, and `Ok tt` for none
 
 -- "Opening uses 1 and 3": 1 is "user count not 1 to 128"; document 02: "21 at opening, after 1 and before 3, if the length is none of these"
@@ -118,12 +134,13 @@ inputs_cause d t g =
     then unless (pooling_adds g) cause.Pooling
     then unless (before_fit d t g) cause.Positions
 
--- "an hour 2 to 11"
+-- "an hour 2 to 11"; document 02: "25, last of all causes of an hour, a preview and a closing"
 unfoldable pub hour_cause : Day → List ℤ → Hour → Result Unit Cause
 hour_cause d t g =
     unless (day_fit d) cause.Record
     then unless (hour_long d t g) cause.Lengths
     then inputs_cause d t g
+    then unless (totals_bounded g.terms.zone (hour_sums d t g) d) cause.Totals
 
 -- a preview of an hour, with a list lent for the positions after; document 02: "The same causes apply in the same order, and cause 3 covers the new list." (2 stands before, since the
 -- record says how many users there are.)
@@ -140,7 +157,7 @@ judge_inputs_cause d t g qs =
     then unless (judge_long d t g qs) cause.Lengths
     then inputs_cause d t g
 
--- "closing 2 to 8"
+-- "closing 2 to 8", and 25
 unfoldable pub closing_cause : Day → List ℤ → Closing → Result Unit Cause
 closing_cause d t g =
     unless (day_fit d) cause.Record
@@ -150,3 +167,4 @@ closing_cause d t g =
     then unless (all_done d g.terms) cause.Hour
     then unless (table_fit d t) cause.Table
     then unless (prices_fit g.terms.excess_price g.terms.shortfall_price) cause.Terms
+    then unless (totals_bounded g.terms.zone (closing_sums d t g) d) cause.Totals

@@ -1,7 +1,8 @@
--- "The table and the day record" of document 01, with the day's length of document 02. Assumes nothing.
+-- "The table and the day record" of document 01, with the day's length and the totals of document 02. Assumes nothing.
 use Rattle.std.specs.Prelude.{Bool, true, false, cond, List, ◌++◌, ℕ, ◌+◌, ℤ, pos, ◌+ℤ◌, length, get_or, take, drop}
 use Rattle.integers.specs.Ranges.{is_zero, natural}
 use Rattle.rules.specs.declared.Day.{Day}
+use Rattle.rules.specs.declared.Sums.{Sums}
 use Rattle.rules.specs.declared.ZoneDay.{ZoneDay}
 
 -- ---- the record
@@ -24,6 +25,13 @@ hours_done zone d = (zone_day zone d).hours
 unfoldable pub is_closed : ℤ → Day → Bool
 is_closed zone d = (zone_day zone d).closed
 
+-- document 02: "how much was sold and bought so far. The record shall hold both, per zone, as sizes in kWh, closing included."
+unfoldable pub total_sold : ℤ → Day → ℤ
+total_sold zone d = (zone_day zone d).sold
+
+unfoldable pub total_bought : ℤ → Day → ℤ
+total_bought zone d = (zone_day zone d).bought
+
 -- the record with one zone's part changed, and otherwise the same
 unfoldable pub with_zone_day : ℤ → (ZoneDay → ZoneDay) → Day → Day
 with_zone_day zone f d =
@@ -31,23 +39,26 @@ with_zone_day zone f d =
     (record { users = d.users; length = d.length; h = f d.h; l = d.l })
     (record { users = d.users; length = d.length; h = d.h; l = f d.l })
 
--- opening answers "a record with no hours done and no zone closed", of so many users and of the length that it was told
+-- opening answers "a record with no hours done and no zone closed", of so many users and of the length that it was told, in which nothing is sold or bought yet
+abbrev pub new_zone_day : ZoneDay
+new_zone_day = record { hours = pos 0; closed = false; sold = pos 0; bought = pos 0 }
+
 unfoldable pub new_day : ℤ → ℤ → Day
-new_day n len = record { users = n; length = len; h = record { hours = pos 0; closed = false }; l = record { hours = pos 0; closed = false } }
+new_day n len = record { users = n; length = len; h = new_zone_day; l = new_zone_day }
 
--- an hour: "The record has one hour more for that zone and is otherwise the same."
-unfoldable pub hour_more : ZoneDay → ZoneDay
-hour_more z = record { hours = z.hours +ℤ pos 1; closed = z.closed }
+-- an hour: "The record has one hour more for that zone and is otherwise the same", but that the totals have its two sums more
+unfoldable pub hour_more : Sums → ZoneDay → ZoneDay
+hour_more s z = record { hours = z.hours +ℤ pos 1; closed = z.closed; sold = z.sold +ℤ s.sold; bought = z.bought +ℤ s.bought }
 
-unfoldable pub day_after_hour : ℤ → Day → Day
-day_after_hour zone d = with_zone_day zone hour_more d
+unfoldable pub day_after_hour : ℤ → Sums → Day → Day
+day_after_hour zone s d = with_zone_day zone (hour_more s) d
 
--- a closing: "the zone is marked closed"
-unfoldable pub closed_now : ZoneDay → ZoneDay
-closed_now z = record { hours = z.hours; closed = true }
+-- a closing: "the zone is marked closed", and the totals have its two sums more
+unfoldable pub closed_now : Sums → ZoneDay → ZoneDay
+closed_now s z = record { hours = z.hours; closed = true; sold = z.sold +ℤ s.sold; bought = z.bought +ℤ s.bought }
 
-unfoldable pub day_after_closing : ℤ → Day → Day
-day_after_closing zone d = with_zone_day zone closed_now d
+unfoldable pub day_after_closing : ℤ → Sums → Day → Day
+day_after_closing zone s d = with_zone_day zone (closed_now s) d
 
 -- ---- the table: "256 places: 128 for the H zone, then 128 for the L zone"
 

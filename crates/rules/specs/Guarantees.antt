@@ -1,5 +1,5 @@
--- What is proved of the definitions, for every input: the opening, demands 2 and 3, rules 2 and 3, a preview, and the judge. Statements only; the proofs are in proofs/Guarantees.antt, and the crate
--- `certificate` asks for each. Assumes nothing.
+-- What is proved of the definitions, for every input: the opening, demands 2 and 3, the totals, rules 2 and 3, a preview, and the judge. Statements only; the proofs are in
+-- proofs/Guarantees.antt, and the crate `certificate` asks for each. Assumes nothing.
 use Rattle.std.specs.Prelude.{◌≡◌, Bool, true, false, cond, List, Result, Ok, Err, map, ◌↔◌, ◌⊎◌, ℕ, ◌+◌, ◌-◌, ◌*◌, ◌/◌, ◌%◌, ◌^◌, ◌<◌, eqb, ltb, ℤ, pos, nat_abs, ◌+ℤ◌, ◌-ℤ◌, length, get_or, take, replicate, ◌≤ℤ◌, ◌<ℤ◌}
 use mathlib.Core.List.{zip_with}
 use Rattle.integers.specs.Ranges.{natural}
@@ -14,14 +14,14 @@ use Rattle.rules.specs.declared.Side.TheVariants.{Excess, Shortfall}
 use Rattle.rules.specs.declared.Outcome.{Outcome}
 use Rattle.rules.specs.declared.Outcome.TheVariants.{Within, Settled}
 use Rattle.rules.specs.Limits.{zone_fit, position_fit}
-use Rattle.rules.specs.Days.{users, hours_of_day, hours_done, is_closed, part, place}
+use Rattle.rules.specs.Days.{users, hours_of_day, hours_done, is_closed, total_sold, total_bought, part, place}
 use Rattle.rules.specs.Hours.{Hour, Closing, inputs_of, before}
 use Rattle.rules.specs.Refusals.{by_cause}
-use Rattle.rules.specs.Causes.{day_fit, list_long, hour_long, judge_long, closing_long, zone_open, hour_next, all_done, table_fit, prices_fit, terms_fit, amounts_fit, pooling_adds, before_fit, hour_cause}
-use Rattle.rules.specs.Market.{Imbalance, total, caused, sizes, settled_sizes, signed}
-use Rattle.rules.specs.Answers.{open_answer, open_table, hour_answer, hour_number, hour_table, hour_quantity, hour_money, hour_scratch, hour_imbalance, preview_answer, preview_quantity, preview_money, preview_after, preview_scratch, closing_answer, closing_number}
+use Rattle.rules.specs.Causes.{day_fit, list_long, hour_long, judge_long, closing_long, zone_open, hour_next, all_done, table_fit, prices_fit, terms_fit, amounts_fit, pooling_adds, before_fit, totals_bounded, hour_cause}
+use Rattle.rules.specs.Market.{Imbalance, total, caused, sizes, settled_sizes, signed, sold, bought, hour_imbalance, hour_sums, closing_sums}
+use Rattle.rules.specs.Answers.{open_answer, open_table, hour_answer, hour_number, hour_table, hour_quantity, hour_money, hour_scratch, preview_answer, preview_quantity, preview_money, preview_after, preview_scratch, closing_answer, closing_number}
 use Rattle.rules.specs.Judging.{judge_answer, judge_number}
-use Rattle.rules.specs.History.{State, Call, opened, run, first_sum, second_sum, closes}
+use Rattle.rules.specs.History.{State, Call, opened, run, passed_on, first_sum, second_sum, closes, all_answered}
 
 -- ---- the opening: "The Gas Day shall be shown to begin at zero, not supposed to."
 abbrev pub BeginsAtZero : Type 0
@@ -51,13 +51,14 @@ pub record InputsFit (d : Day) (t : List ℤ) (g : Hour) : Type 0 where
   pub pooling : pooling_adds g ≡ true
   pub positions : before_fit d t g ≡ true
 
--- no cause of an hour exists: each test of the causes 2 to 11 holds
+-- no cause of an hour exists: each test of the causes 2 to 11 and 25 holds
 pub record HourFit (d : Day) (t : List ℤ) (g : Hour) : Type 0 where
   pub day : day_fit d ≡ true
   pub lengths : hour_long d t g ≡ true
   pub inputs : InputsFit d t g
+  pub totals : totals_bounded g.terms.zone (hour_sums d t g) d ≡ true
 
--- no cause of a closing exists: each test of the causes 2 to 8 holds
+-- no cause of a closing exists: each test of the causes 2 to 8 and 25 holds
 pub record ClosingFit (d : Day) (t : List ℤ) (g : Closing) : Type 0 where
   pub day : day_fit d ≡ true
   pub lengths : closing_long d t g ≡ true
@@ -66,6 +67,7 @@ pub record ClosingFit (d : Day) (t : List ℤ) (g : Closing) : Type 0 where
   pub done : all_done d g.terms ≡ true
   pub table : table_fit d t ≡ true
   pub prices : prices_fit g.terms.excess_price g.terms.shortfall_price ≡ true
+  pub totals : totals_bounded g.terms.zone (closing_sums d t g) d ≡ true
 
 abbrev pub AcceptedIfFit : Type 0
 AcceptedIfFit =
@@ -96,6 +98,37 @@ abbrev pub ClosedIsMarked : Type 0
 ClosedIsMarked =
     (n len : ℤ) (t : List ℤ) (d : Day) → open_answer n len t ≡ Ok d
     → (calls : List Call) (zone : ℤ) → zone_fit zone ≡ true → is_closed zone (run (opened d n len t) calls).day ≡ closes zone (opened d n len t) calls
+
+-- ---- the totals; document 02: "how much was sold and bought so far .. closing included"
+
+-- "In a day carried as the conservation rule says, they equal the sums of the positive and of the negative quantities answered since opening." One claim about the list.
+abbrev pub TotalsAreSums : Type 0
+TotalsAreSums =
+    (n len : ℤ) (t : List ℤ) (d : Day) → open_answer n len t ≡ Ok d
+    → (calls : List Call) (zone : ℤ) → zone_fit zone ≡ true
+    → (total_sold zone (run (opened d n len t) calls).day ≡ sold (all_answered zone (opened d n len t) calls))
+    × (total_bought zone (run (opened d n len t) calls).day ≡ bought (all_answered zone (opened d n len t) calls))
+
+-- No call that is given this record and this table is refused by the cause of this number, whatever else it is given.
+pub record NeverBy (k : ℕ) (s : State) : Type 0 where
+  pub hour : (g : Hour) → hour_number (hour_answer s.day s.table g) ≡ k → ⊥
+  pub preview : (g : Hour) (lent : List ℤ) → hour_number (preview_answer s.day s.table g lent) ≡ k → ⊥
+  pub judge : (g : Hour) (qs : List ℤ) → judge_number (judge_answer s.day s.table g qs) ≡ k → ⊥
+  pub closing : (g : Closing) → closing_number (closing_answer s.day s.table g) ≡ k → ⊥
+
+-- "Only an altered record can lead past that bound.": on a day that opening opened, record and table passed on as the calls left them, 25 is no call's cause; nor where the record alone is
+-- passed on, whatever tables that call and those before it are given.
+abbrev pub OnlyAlteredPasses : Type 0
+OnlyAlteredPasses =
+    (n len : ℤ) (t : List ℤ) (d : Day) → open_answer n len t ≡ Ok d
+    → ((calls : List Call) → NeverBy 25 (run (opened d n len t) calls))
+    × ((calls : List (List ℤ × Call)) (table : List ℤ) → NeverBy 25 (record { day = passed_on d calls; table = table }))
+
+-- Nor is a day that opening opened, record and table passed on as the calls left them, turned away for its record (2) or for its table (7): those are always fit.
+abbrev pub OwnDayFits : Type 0
+OwnDayFits =
+    (n len : ℤ) (t : List ℤ) (d : Day) → open_answer n len t ≡ Ok d
+    → (calls : List Call) → NeverBy 2 (run (opened d n len t) calls) × NeverBy 7 (run (opened d n len t) calls)
 
 -- ---- "Whatever record and table an hour is given, once it is accepted the market after it is neither above the upper nor below the lower of that hour's thresholds, a user who did
 -- not cause has quantity 0, and each who did is settled by rules 4 and 5 of document 01, with a settled size less than 1 kWh from the exact share."

@@ -1,5 +1,5 @@
 -- "Conservation and accuracy": a list of hours and closings on a day, each given the record that the last call returned and the table as it left it. Assumes nothing.
-use Rattle.std.specs.Prelude.{Bool, false, cond, ◌&&◌, ◌||◌, List, [], ◌∷◌, ℕ, eqb, ℤ, pos, ◌+ℤ◌, get_or}
+use Rattle.std.specs.Prelude.{Bool, false, cond, ◌&&◌, ◌||◌, List, [], ◌∷◌, ◌++◌, ℕ, eqb, ℤ, pos, ◌+ℤ◌, get_or}
 use Rattle.integers.specs.Ranges.{equal}
 use Rattle.rules.specs.declared.Day.{Day}
 use Rattle.rules.specs.Hours.{Hour, Closing, amounts}
@@ -33,6 +33,11 @@ hour_accepted s g = eqb (hour_number (hour_answer s.day s.table g)) 0
 unfoldable pub closing_accepted : State → Closing → Bool
 closing_accepted s g = eqb (closing_number (closing_answer s.day s.table g)) 0
 
+-- the record as the last call returned it, where each call of a list is given the record that the one before returned, but a table of its own, whatever this holds
+unfoldable pub passed_on : Day → List (List ℤ × Call) → Day
+passed_on d [] = d
+passed_on d (c ∷ cs) = passed_on (step (record { day = d; table = c.0 }) c.1).day cs
+
 module _ (zone : ℤ) (user : ℕ) where
   -- "An accepted hour of the zone adds the user's four amounts to the first
   unfoldable pub adds_first : State → Call → ℤ
@@ -62,3 +67,13 @@ module _ (zone : ℤ) where
   unfoldable pub closes : State → List Call → Bool
   closes s [] = false
   closes s (c ∷ cs) = closes_now s c || closes (step s c) cs
+
+  -- document 02: the "quantities answered since opening", of the zone: those of an accepted hour or closing of it, and of another call none
+  unfoldable pub answered : State → Call → List ℤ
+  answered s (hour g) = cond (hour_accepted s g && equal g.terms.zone zone) (hour_quantity s.day s.table g) []
+  answered s (closing g) = cond (closing_accepted s g && equal g.terms.zone zone) (closing_quantity s.day s.table g) []
+
+  -- those of all the list
+  unfoldable pub all_answered : State → List Call → List ℤ
+  all_answered s [] = []
+  all_answered s (c ∷ cs) = answered s c ++ all_answered (step s c) cs

@@ -11,9 +11,9 @@ use Rattle.rules.specs.declared.Day.{Day}
 use Rattle.rules.specs.declared.Refusal.{Refusal}
 use Rattle.rules.specs.Hours.{Hour, before}
 use Rattle.rules.specs.Refusals.{number, unless, ◌then◌}
-use Rattle.rules.specs.Market.{Imbalance, total, caused, sizes, signed}
+use Rattle.rules.specs.Market.{Imbalance, total, caused, sizes, signed, hour_imbalance}
 use Rattle.rules.specs.Causes.{judge_inputs_cause}
-use Rattle.rules.specs.Answers.{with_day, hour_imbalance, number_by}
+use Rattle.rules.specs.Answers.{with_day, number_by}
 
 -- a test of each user, of its position before and its quantity
 unfoldable pub each_user : (ℤ → ℤ → Bool) → List ℤ → List ℤ → Bool

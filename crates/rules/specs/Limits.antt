@@ -1,5 +1,5 @@
--- "Quantities and their ranges": the limits of document 01, each once, by the kind of amount that it bounds; and the lengths of a day, from document 02. `most` is the size that a range
--- goes to. Assumes nothing.
+-- "Quantities and their ranges": the limits of document 01, each once, by the kind of amount that it bounds; and the lengths of a day and the bound of a total, from document 02.
+-- `most` is the size that a range goes to. Assumes nothing.
 use Rattle.std.specs.Prelude.{Bool, ℕ, ◌*◌, ℤ, pos, neg_ℤ}
 use Rattle.integers.specs.Ranges.{in_range}
 
@@ -66,6 +66,13 @@ position_fit kwh = in_range (neg_ℤ (pos position_most)) (pos position_most) kw
 -- the sum of all users' positions
 abbrev pub market_most : ℕ
 market_most = users_most * position_most
+
+-- document 02, of what was sold or bought so far: "a total below zero or above 332,800,000,000"
+abbrev pub total_most : ℕ
+total_most = 332_800_000_000
+
+unfoldable pub total_fit : ℤ → Bool
+total_fit kwh = in_range (pos 0) (pos total_most) kwh
 
 -- "Upper threshold: 0 to 1,000,000,000."
 abbrev pub threshold_most : ℕ

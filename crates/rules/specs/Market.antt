@@ -1,14 +1,18 @@
--- Rules 2 to 6: what is settled of the positions before settlement; the causers' marks; and the two sums of a closing. Assumes nothing.
+-- Rules 2 to 6: what is settled of the positions before settlement; the causers' marks; what is sold and bought by a list of quantities; and these things of an hour and of a closing. Assumes
+-- nothing.
 use Rattle.std.specs.Prelude.{Bool, false, cond, ℕ, ◌+◌, ◌*◌, ℤ, pos, nat_abs, neg_ℤ, ◌-ℤ◌, ◌*ℤ◌, take, drop}
 use mathlib.Core.List.{List, [], ◌∷◌, map, zip_with}
 use Rattle.std.specs.Int.Count.{ones_in}
 use Rattle.std.specs.Int.Signed.{lt_z}
 use Rattle.integers.specs.Lists.{sum_ℤ, bit}
 use Rattle.largest_remainder.specs.Rule.{settled}
+use Rattle.rules.specs.declared.Day.{Day}
 use Rattle.rules.specs.declared.Marks.{Marks}
+use Rattle.rules.specs.declared.Sums.{Sums}
 use Rattle.rules.specs.declared.Side.TheVariants.{Excess, Shortfall}
 use Rattle.rules.specs.declared.Outcome.{Outcome}
 use Rattle.rules.specs.declared.Outcome.TheVariants.{Within, Settled}
+use Rattle.rules.specs.Hours.{Hour, Closing, before, standing}
 
 -- ---- rule 2
 
@@ -92,9 +96,32 @@ outcome within positions = Within
 outcome (excess n) positions = Settled (Excess (pos n)) (marks (causers (excess n) positions))
 outcome (shortfall n) positions = Settled (Shortfall (pos n)) (marks (causers (shortfall n) positions))
 
--- ---- a closing: "two sums, sold and bought, in kWh and both as sizes"
+-- ---- "two sums, sold and bought, in kWh and both as sizes": of the positive quantities of a list, and of the negative ones
+unfoldable pub sold_of : ℤ → ℤ
+sold_of q = cond (lt_z (pos 0) q) q (pos 0)
+
+unfoldable pub bought_of : ℤ → ℤ
+bought_of q = cond (lt_z q (pos 0)) (neg_ℤ q) (pos 0)
+
 unfoldable pub sold : List ℤ → ℤ
-sold qs = sum_ℤ (map (λ q. cond (lt_z (pos 0) q) q (pos 0)) qs)
+sold qs = sum_ℤ (map sold_of qs)
 
 unfoldable pub bought : List ℤ → ℤ
-bought qs = sum_ℤ (map (λ q. cond (lt_z q (pos 0)) (neg_ℤ q) (pos 0)) qs)
+bought qs = sum_ℤ (map bought_of qs)
+
+abbrev pub sums : List ℤ → Sums
+sums qs = record { sold = sold qs; bought = bought qs }
+
+-- ---- of an hour, and of a closing: "Each user's quantity is its whole position"
+module _ (d : Day) (t : List ℤ) where
+  unfoldable pub hour_imbalance : Hour → Imbalance
+  hour_imbalance g = imbalance g.terms.upper g.terms.lower (before d t g)
+
+  abbrev pub hour_quantities : Hour → List ℤ
+  hour_quantities g = quantities (hour_imbalance g) (before d t g)
+
+  unfoldable pub hour_sums : Hour → Sums
+  hour_sums g = sums (hour_quantities g)
+
+  unfoldable pub closing_sums : Closing → Sums
+  closing_sums g = sums (standing d t g)

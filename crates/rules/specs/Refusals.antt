@@ -1,9 +1,10 @@
 -- "Checked in the order of their numbers; the first that applies is given." Assumes nothing.
 use Rattle.std.specs.Prelude.{Bool, true, false, ℕ, Result, Ok, Err}
 use Rattle.rules.specs.declared.Cause.{Cause}
-use Rattle.rules.specs.declared.Cause.TheVariants.{Users, Record, Lengths, Zone, Closed, Hour, Table, Terms, Amounts, Pooling, Positions, DayLength, Signs, Shares, Sum}
+use Rattle.rules.specs.declared.Cause.TheVariants.{Users, Record, Lengths, Zone, Closed, Hour, Table, Terms, Amounts, Pooling, Positions, DayLength, Signs, Shares, Sum, Totals}
 
--- "Causes for turning a call away", by number; document 02: "21 at opening, .. if the length is none of these", and of an operator's quantities "22 .. then 23 .. then 24"
+-- "Causes for turning a call away", by number; document 02: "21 at opening, .. if the length is none of these"; of an operator's quantities "22 .. then 23 .. then 24"; and "25, last of
+-- all causes of an hour, a preview and a closing"
 abbrev pub number : Cause → ℕ
 number Users = 1
 number Record = 2
@@ -20,6 +21,7 @@ number DayLength = 21
 number Signs = 22
 number Shares = 23
 number Sum = 24
+number Totals = 25
 
 -- A test of a call answers a Result: `Ok tt` where no cause applies, or the cause.
 infixr 20 ◌then◌

@@ -38,6 +38,8 @@ pub enum Cause {
     Shares = 23,
     // "then 24 if the sum is wrong"
     Sum = 24,
+    // "last of all causes of an hour, a preview and a closing, if a total would pass the bound"
+    Totals = 25,
 }
 
 impl Cause {
@@ -56,11 +58,13 @@ pub fn require<E: Copy>(fits: bool, cause: E) -> Result<(), E>
     if fits { Ok(()) } else { Err(cause) }
 }
 
-// Of one zone: the hours done, and whether it is closed.
+// Of one zone: the hours done, whether it is closed, and what was sold and bought so far, both as sizes.
 #[derive(Clone, Copy, PartialEq, Eq)]
 pub struct ZoneDay {
     pub hours: i64,
     pub closed: bool,
+    pub sold: i64,
+    pub bought: i64,
 }
 
 // The day record, which goes in by value and comes back by value. Its length is the number of hours that the day has.
@@ -83,6 +87,13 @@ impl Day {
     pub const LENGTH_USUAL: i64 = 24;
 
     pub const LENGTH_MOST: i64 = 25;
+}
+
+// What one hour or one closing adds to a zone's totals: what is sold and what is bought, both as sizes.
+#[derive(Clone, Copy)]
+pub struct Sums {
+    pub sold: i64,
+    pub bought: i64,
 }
 
 // A refusal: its cause, and the same record.

@@ -30,9 +30,9 @@ module _ (p : List ℤ) (a : Amounts) where
   befores-take = tabulate_ext _ _ (length a.entries.now) (λ u h. ap (λ (y : ℤ). y +ℤ amounts_at a u) (get_or-take (length a.entries.now) p u (pos 0) h))
 
   module _ (k : HourTerms) where
-    pub users_asked : (o : Outputs) (s : List ℕ) → Asks p a k o s
-        → (length (take (length a.entries.now) p) ≡ length a.entries.now) × Asks (take (length a.entries.now) p) a k o s
-    users_asked o s g = (long, asks)
+    pub users_asked : (m : ℤ) (o : Outputs) (s : List ℕ) → Asks p a k m o s
+        → (length (take (length a.entries.now) p) ≡ length a.entries.now) × Asks (take (length a.entries.now) p) a k m o s
+    users_asked m o s g = (long, asks)
       where
         b : Lent p a
         b = g.amounts.lent
@@ -40,7 +40,7 @@ module _ (p : List ℤ) (a : Amounts) where
         long : length (take (length a.entries.now) p) ≡ length a.entries.now
         long = simp length-take (omega (arith, b.room))
 
-        asks : Asks (take (length a.entries.now) p) a k o s
+        asks : Asks (take (length a.entries.now) p) a k m o s
         asks = record {
           amounts = record {
             lent = record {
@@ -52,6 +52,7 @@ module _ (p : List ℤ) (a : Amounts) where
             fit = g.amounts.fit;
           };
           positions = rw befores-take g.positions;
+          market = rw befores-take g.market;
           terms = g.terms;
           quantities = g.quantities;
           moneys = g.moneys;

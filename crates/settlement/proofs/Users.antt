@@ -50,18 +50,21 @@ no_change [] = refl
 no_change (p ∷ ps) = ap₂ (λ (x : ℤ) (l : List ℤ). x ∷ l) (+ℤ_idr p) (no_change ps)
 
 -- ---- by the positions before, z
-module _ {p : List ℤ} {a : Amounts} {k : HourTerms} {o : Outputs} {s : List ℕ} (g : Asks p a k o s) (z : List ℤ) (ez : z ≡ befores p a) where
+module _ {p : List ℤ} {a : Amounts} {k : HourTerms} {m : ℤ} {o : Outputs} {s : List ℕ} (g : Asks p a k m o s) (z : List ℤ) (ez : z ≡ befores p a) where
   z_long : length z ≡ length a.entries.now
   z_long = ap length ez ∙ length-befores p a
 
   z_small : AtMost position_most z
   z_small = rw ez (positions_small (befores p a) g.positions)
 
-  pub sum_asked : (length z ≤ users_most) × AtMost position_most z
-  sum_asked = (omega (arith, z_long, g.amounts.lent.few), z_small)
+  z_few : length z ≤ users_most
+  z_few = omega (arith, z_long, g.amounts.lent.few)
+
+  pub market_is : m ≡ sum_ℤ z
+  market_is = g.market ∙ sym (ap sum_ℤ ez)
 
   pub market_small : nat_abs (sum_ℤ z) ≤ market_most
-  market_small = omega (arith, sum_bound z z_small, sum_asked.0)
+  market_small = omega (arith, sum_bound z z_small, z_few)
 
   -- a total is no larger than the market and its threshold together, and can be shared
   record Total (up : Bool) (n : ℕ) : Type 0 where
@@ -95,7 +98,7 @@ module _ {p : List ℤ} {a : Amounts} {k : HourTerms} {o : Outputs} {s : List �
     pub side_asked : SideAsks up n z k o s
     side_asked = record {
       input = record {
-        users = omega (arith, length-sizes (side up n) z, sum_asked.0);
+        users = omega (arith, length-sizes (side up n) z, z_few);
         small = sizes_small (side up n) z z_small;
         some = of_side.shareable.some;
         within = omega (arith, of_side.shareable.enough, total-side up n);

@@ -1,6 +1,6 @@
 -- What the settlement of a zone asks and leaves, step by step, as its contracts state it. A reader who believes the rules need not believe these. Assumes nothing.
 use Rattle.std.specs.Prelude.{◌≡◌, true, List, ℕ, ℤ, length, replicate}
-use Rattle.integers.specs.Lists.{every}
+use Rattle.integers.specs.Lists.{sum_ℤ, every}
 use Rattle.rules.specs.declared.Amounts.{Amounts}
 use Rattle.rules.specs.declared.HourTerms.{HourTerms}
 use Rattle.rules.specs.declared.Outcome.{Outcome}
@@ -12,9 +12,11 @@ use Rattle.rules.specs.Market.{imbalance, quantities, after, moneys, outcome}
 use Rattle.rules.specs.Causes.{terms_fit}
 use Rattle.positions.specs.Before.{befores, InRange}
 
-pub record Asks (p : List ℤ) (a : Amounts) (k : HourTerms) (o : Outputs) (s : List ℕ) : Type 0 where
+-- with the market position m
+pub record Asks (p : List ℤ) (a : Amounts) (k : HourTerms) (m : ℤ) (o : Outputs) (s : List ℕ) : Type 0 where
   pub amounts : InRange p a
   pub positions : every position_fit (befores p a) ≡ true
+  pub market : m ≡ sum_ℤ (befores p a)
   pub terms : terms_fit k ≡ true
   pub quantities : length o.quantity.now ≡ length a.entries.now
   pub moneys : length o.money.now ≡ length a.entries.now
@@ -40,9 +42,9 @@ pub record ZoneLeaves (p p' : List ℤ) (a : Amounts) (k : HourTerms) (o o' : Ou
   pub lists : Leaves (befores p a) k o o' s s' r
   pub places : p' ≡ onto (afters k (befores p a)) p
 
-pub record TableAsks (tb : List ℤ) (a : Amounts) (k : HourTerms) (o : Outputs) (s : List ℕ) : Type 0 where
+pub record TableAsks (tb : List ℤ) (a : Amounts) (k : HourTerms) (m : ℤ) (o : Outputs) (s : List ℕ) : Type 0 where
   pub long : length tb ≡ 256
-  pub lists : Asks (part k.zone tb) a k o s
+  pub lists : Asks (part k.zone tb) a k m o s
 
 pub record TableLeaves (tb tb' : List ℤ) (a : Amounts) (k : HourTerms) (o o' : Outputs) (s s' : List ℕ) (r : Outcome) : Type 0 where
   pub lists : Leaves (befores (part k.zone tb) a) k o o' s s' r

@@ -24,21 +24,21 @@ fn add_amounts(positions: &mut [i64], amounts: &Amounts)
     }
 }
 
-// Rules 1 to 6 on places that hold the users' positions and nothing else.
+// Rules 1 to 6 on places that hold the users' positions and nothing else. (The market position is given: the causes had to know it.)
 fn settle_users(
     positions: &mut [i64],
     amounts: &Amounts,
     terms: HourTerms,
+    market: i64,
     outputs: &mut Outputs,
     scratch: &mut [u64],
 ) -> Outcome
     requires { (length positions.old ≡ length amounts.now.entries.now)
-        × Asks positions.old amounts.now terms outputs.old scratch.old }
+        × Asks positions.old amounts.now terms market outputs.old scratch.old }
     ensures { UsersLeave positions.old positions.new amounts.now terms
         outputs.old outputs.new scratch.old scratch.new result }
 {
     add_amounts(positions, amounts);
-    let market = positions::sum_of(positions);
     match positions::imbalance_of(terms, market) {
         Imbalance::Excess(total) => {
             let marked = sides::settle_side(true, total, positions, terms, outputs, scratch);
@@ -62,15 +62,16 @@ fn settle_zone(
     part: &mut [i64],
     amounts: &Amounts,
     terms: HourTerms,
+    market: i64,
     outputs: &mut Outputs,
     scratch: &mut [u64],
 ) -> Outcome
-    requires { Asks part.old amounts.now terms outputs.old scratch.old }
+    requires { Asks part.old amounts.now terms market outputs.old scratch.old }
     ensures { ZoneLeaves part.old part.new amounts.now terms
         outputs.old outputs.new scratch.old scratch.new result }
 {
     let users = amounts.entries.len();
-    settle_users(&mut part[..users], amounts, terms, outputs, scratch)
+    settle_users(&mut part[..users], amounts, terms, market, outputs, scratch)
 }
 
 // ---- an hour, and a preview of one
@@ -81,17 +82,25 @@ pub fn settle_table(
     table: &mut [i64],
     amounts: &Amounts,
     terms: HourTerms,
+    market: i64,
     outputs: &mut Outputs,
     scratch: &mut [u64],
 ) -> Outcome
-    requires { TableAsks table.old amounts.now terms outputs.old scratch.old }
+    requires { TableAsks table.old amounts.now terms market outputs.old scratch.old }
     ensures { TableLeaves table.old table.new amounts.now terms
         outputs.old outputs.new scratch.old scratch.new result }
 {
     if terms.zone == 0 {
-        settle_zone(&mut table[0..128], amounts, terms, outputs, scratch)
+        settle_zone(&mut table[0..128], amounts, terms, market, outputs, scratch)
     } else {
-        settle_zone(&mut table[128..256], amounts, terms, outputs, scratch)
+        settle_zone(
+            &mut table[128..256],
+            amounts,
+            terms,
+            market,
+            outputs,
+            scratch,
+        )
     }
 }
 
@@ -122,15 +131,16 @@ pub fn settle_copy(
     table: &[i64],
     amounts: &Amounts,
     terms: HourTerms,
+    market: i64,
     outputs: &mut Outputs,
     after: &mut [i64],
     scratch: &mut [u64],
 ) -> Outcome
-    requires { TableAsks table.now amounts.now terms outputs.old scratch.old
+    requires { TableAsks table.now amounts.now terms market outputs.old scratch.old
         × (length after.old ≡ length amounts.now.entries.now) }
     ensures { UsersLeave (part terms.zone table.now) after.new amounts.now terms
         outputs.old outputs.new scratch.old scratch.new result }
 {
     copy_places(terms.zone, table, after);
-    settle_zone(after, amounts, terms, outputs, scratch)
+    settle_zone(after, amounts, terms, market, outputs, scratch)
 }

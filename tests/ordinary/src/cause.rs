@@ -4,7 +4,9 @@
 pub const OPENING_USERS: u64 = 1;
 /// Record's user count not 1 to 128, hours not 0 to 24, or a zone closed with
 /// fewer than 24. Ask 3: "Causes 2 and 6 read that length in the place of 24, for both
-/// zones", and "cause 2 also covers a record with another length".
+/// zones", and "cause 2 also covers a record with another length". Ask 7: "Cause 2 also
+/// covers a zone with no hours done whose totals are not zero, and a total below zero or
+/// above 332,800,000,000."
 pub const RECORD: u64 = 2;
 /// Table not of 256 places, or a list or the scratch not of exactly the user count. Ask 5,
 /// of a preview's positions after: "cause 3 covers the new list". Ask 6, of the operator's
@@ -56,3 +58,6 @@ pub const JUDGED_SIGN: u64 = 22;
 pub const JUDGED_SHARE: u64 = 23;
 /// "the sum is wrong", which is looked at last.
 pub const JUDGED_SUM: u64 = 24;
+/// "last of all causes of an hour, a preview and a closing, if a total would pass the
+/// bound."
+pub const TOTALS: u64 = 25;

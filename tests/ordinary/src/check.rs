@@ -1,4 +1,4 @@
-//! The checks that hours, previews, judged hours and closings share, one function per cause.
+//! The checks that hours, previews, judged hours and closings share, mostly one function per cause.
 
 use std::ops::RangeInclusive;
 
@@ -27,9 +27,18 @@ pub(crate) fn record(day: &Day) -> Result<usize, u64> {
         && limits::LENGTHS.contains(&day.length)
         && all_in(&day.hours, &(0..=day.length))
         && all_in(&day.closed, &(0..=1))
-        && (0..2).all(|zone| !day.is_closed(zone) || day.hours[zone] == day.length);
+        && (0..2).all(|zone| !day.is_closed(zone) || day.hours[zone] == day.length)
+        && totals_fit(day);
     require(fits, cause::RECORD)?;
     Ok(day.users as usize)
+}
+
+/// What Ask 7 adds to it: "Cause 2 also covers a zone with no hours done whose totals are
+/// not zero, and a total below zero or above 332,800,000,000."
+fn totals_fit(day: &Day) -> bool {
+    all_in(&day.sold, &limits::TOTAL)
+        && all_in(&day.bought, &limits::TOTAL)
+        && (0..2).all(|zone| day.hours[zone] > 0 || (day.sold[zone] == 0 && day.bought[zone] == 0))
 }
 
 /// Cause 3: "table not of 256 places, or a list or the scratch not of exactly the
@@ -68,6 +77,28 @@ pub(crate) fn table(day: &Day, table: &[i64]) -> Result<(), u64> {
 pub(crate) fn users_places(table: &mut [i64], zone: usize, users: usize) -> &mut [i64] {
     let start = zone * limits::PLACES;
     &mut table[start..start + users]
+}
+
+/// "the sums of the positive and of the negative quantities", both as sizes. The sum of all is
+/// what was sold less what was bought, and quicker to have than that of the positive ones.
+pub(crate) fn sums(quantity: &[i64]) -> (i64, i64) {
+    let all: i64 = quantity.iter().sum();
+    let bought: i64 = quantity.iter().map(|&quantity| -quantity.min(0)).sum();
+    (all + bought, bought)
+}
+
+/// Cause 25: "last of all causes of an hour, a preview and a closing, if a total would pass
+/// the bound." So it is looked at when the quantities are known and nothing is written yet.
+/// Answers the record with the zone's totals after, and is otherwise the same.
+///
+/// Cause 2 has bounded the totals, so that a sum of 64 bits holds what they become.
+pub(crate) fn totals(day: &Day, zone: usize, (sold, bought): (i64, i64)) -> Result<Day, u64> {
+    let mut after = *day;
+    after.sold[zone] += sold;
+    after.bought[zone] += bought;
+    let fits = limits::TOTAL.contains(&after.sold[zone]) && limits::TOTAL.contains(&after.bought[zone]);
+    require(fits, cause::TOTALS)?;
+    Ok(after)
 }
 
 /// "Money is quantity times the hour's excess price if the quantity is positive, else

@@ -7,7 +7,8 @@ use crate::{cause, check, limits, Day};
 /// negative. The places become zero and the zone is marked closed. [...] The answer
 /// gives two sums, sold and bought, in kWh and both as sizes." Causes 2 to 8; of them,
 /// by Ask 3, "Causes 2 and 6 read that length in the place of 24, for both zones", so
-/// that a zone may be closed after the 23, 24 or 25 hours of the record's day.
+/// that a zone may be closed after the 23, 24 or 25 hours of the record's day. Ask 7: the
+/// record's totals are "closing included", and cause 25 is "last of all causes".
 pub fn close_zone(
     day: Day,
     table: &mut [i64],
@@ -26,20 +27,15 @@ pub fn close_zone(
     let prices_fit = check::all_in(&[excess_price, shortfall_price], &limits::PRICE);
     check::require(prices_fit, cause::TERMS)?;
 
-    let (mut sold, mut bought) = (0, 0);
     let places = check::users_places(table, zone, users);
+    let (sold, bought) = check::sums(places);
+    let mut after = check::totals(&day, zone, (sold, bought))?;
+    after.closed[zone] = 1;
+
     for ((place, quantity), money) in places.iter_mut().zip(quantity).zip(money) {
         let position = std::mem::take(place);
         *quantity = position;
         *money = check::money(position, excess_price, shortfall_price);
-        if position > 0 {
-            sold += position;
-        } else {
-            bought -= position;
-        }
     }
-
-    let mut after = day;
-    after.closed[zone] = 1;
     Ok((after, sold, bought))
 }

@@ -53,12 +53,14 @@ pub(crate) struct Amounts<'a> {
     pub(crate) pooling: &'a [i64],
 }
 
-/// Settles an hour of a zone by rules 1 to 6. Causes 2 to 11.
+/// Settles an hour of a zone by rules 1 to 6. Causes 2 to 11, and then 25.
 ///
 /// "The quantity list and the money list get one number per user, and the users'
 /// places in the zone's part of the table get the positions after. The accepted call
 /// sets its scratch (one unsigned 64-bit place per user) to zero. The record has one
-/// hour more for that zone and is otherwise the same." So it keeps its length.
+/// hour more for that zone and is otherwise the same." So it keeps its length. Ask 7: the
+/// record also holds "how much was sold and bought so far", "per zone", and 25 is "last of
+/// all causes of an hour": so the quantities are worked out in areas of this call's own.
 #[allow(clippy::too_many_arguments)]
 pub fn settle_hour(
     day: Day,
@@ -104,12 +106,15 @@ pub fn settle_hour(
     positions_before(places, &amounts, before);
     check::require(check::all_in(before, &limits::POSITION), cause::POSITION)?;
 
-    let outcome = settle(before, &terms, quantity, scratch);
+    let mut all_settled = [0; limits::PLACES];
+    let settled = &mut all_settled[..users];
+    let outcome = settle(before, &terms, settled);
+    let mut after = check::totals(&day, zone, check::sums(settled))?;
+    after.hours[zone] = hour;
+
+    quantity.copy_from_slice(settled);
     book(before, &terms, quantity, money, places);
     scratch.fill(0);
-
-    let mut after = day;
-    after.hours[zone] = hour;
     Ok((after, outcome))
 }
 
@@ -191,13 +196,12 @@ impl Side {
     }
 }
 
-/// Rules 2 to 5: sets the quantities and answers the outcome.
-fn settle(before: &[i64], terms: &Terms, quantity: &mut [i64], scratch: &mut [u64]) -> Outcome {
-    quantity.fill(0);
+/// Rules 2 to 5: sets the quantities, which are zero, and answers the outcome.
+fn settle(before: &[i64], terms: &Terms, quantity: &mut [i64]) -> Outcome {
     let Some((side, total)) = market_side(before, terms) else {
         return Outcome::Within;
     };
-    let marks = share_out(side, total, before, quantity, scratch);
+    let marks = share_out(side, total, before, quantity);
     Outcome::Settled {
         side,
         total: total as i64,
@@ -214,13 +218,8 @@ fn settle(before: &[i64], terms: &Terms, quantity: &mut [i64], scratch: &mut [u6
 /// Fractions compare as the remainders of the division. The total is at most the sum of
 /// the sizes, which is at most 128 times 100,000,000, so that a product stays below
 /// 2^61 and a remainder below 2^34. Expects quantities of zero and answers the marks.
-fn share_out(
-    side: Side,
-    total: u64,
-    before: &[i64],
-    quantity: &mut [i64],
-    scratch: &mut [u64],
-) -> [u64; 2] {
+fn share_out(side: Side, total: u64, before: &[i64], quantity: &mut [i64]) -> [u64; 2] {
+    let mut ranks = [0; limits::PLACES];
     let sum: u64 = before.iter().map(|&position| side.size(position)).sum();
     let mut marks = [0; 2];
     let mut spare = total;
@@ -234,11 +233,11 @@ fn share_out(
         let share = product / sum;
         quantity[place] = side.sign() * share as i64;
         spare -= share;
-        scratch[causers] = rank(product - share * sum, place);
+        ranks[causers] = rank(product - share * sum, place);
         causers += 1;
         marks[place / 64] |= 1 << (place % 64);
     }
-    for &mut rank in largest(&mut scratch[..causers], spare as usize) {
+    for &mut rank in largest(&mut ranks[..causers], spare as usize) {
         quantity[ranked_place(rank)] += side.sign();
     }
     marks

@@ -11,7 +11,7 @@ use crate::{cause, check, limits, Day, Terms};
 ///
 /// "Causes 2 to 11 come first, 3 also for that list; no money list or scratch is lent, the table
 /// is only read, and the record comes back unchanged." Then 22, 23 and 24, each over all users
-/// before the next.
+/// before the next. Ask 7 names 25 for "an hour, a preview and a closing", and not for this.
 #[allow(clippy::too_many_arguments)]
 pub fn judge_hour(
     day: Day,

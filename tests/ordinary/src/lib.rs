@@ -4,8 +4,8 @@
 //!
 //! An ordinary program, written from the requirements paper ("The Gas Day:
 //! allocations, positions and settlement"), the writer, amounts in MWh, days of 23 and 25
-//! hours, the preview and the judge from its change requests (Asks 1 to 3, 5 and 6), and from
-//! nothing else.
+//! hours, the preview, the judge and the record's totals from its change requests (Asks 1 to 3
+//! and 5 to 7), and from nothing else.
 //!
 //! Every call either is accepted or answers a cause (see [`cause`]). "Checked in
 //! the order of their numbers; the first that applies is given." Only 21 comes "at
@@ -30,6 +30,7 @@ mod reader;
 pub mod spoilt;
 pub mod spoilt_file;
 pub mod spoilt_quantities;
+pub mod spoilt_totals;
 pub mod spoilt_writing;
 mod thresholds;
 mod writer;

@@ -28,3 +28,5 @@ pub const UPPER: RangeInclusive<i64> = 0..=1_000_000_000;
 pub const LOWER: RangeInclusive<i64> = -1_000_000_000..=0;
 /// "Price: -10,000,000 to 10,000,000."
 pub const PRICE: RangeInclusive<i64> = -10_000_000..=10_000_000;
+/// Ask 7, of a zone's totals in the record: not "below zero or above 332,800,000,000".
+pub const TOTAL: RangeInclusive<i64> = 0..=332_800_000_000;

@@ -59,7 +59,8 @@ const POOLED: i64 = 50_000_000;
 /// Sizes of positions to choose from.
 const SCALES: [i64; 7] = [1, 3, 10, 1_000, 1_000_000, 50_000_000, 100_000_000];
 
-/// A fit record in the middle of a day of any length, and a table fit for it.
+/// A fit record in the middle of a day of any length, and a table fit for it. Its totals leave
+/// room for whatever an hour or a closing adds.
 pub fn day(random: &mut Random, users: usize) -> (Day, Vec<i64>) {
     let length = random.between(*limits::LENGTHS.start(), *limits::LENGTHS.end());
     let mut day = Day {
@@ -67,12 +68,17 @@ pub fn day(random: &mut Random, users: usize) -> (Day, Vec<i64>) {
         length,
         hours: [0; 2],
         closed: [0; 2],
+        sold: [0; 2],
+        bought: [0; 2],
     };
     let mut table = vec![0; limits::TABLE];
     for (zone, part) in table.chunks_exact_mut(limits::PLACES).enumerate() {
         let any = random.between(0, length);
         day.hours[zone] = random.pick([0, length - 1, length, any, any]);
         day.closed[zone] = i64::from(day.hours[zone] == length && random.one_in(3));
+        if day.hours[zone] > 0 {
+            [day.sold[zone], day.bought[zone]] = [0; 2].map(|_| total(random));
+        }
         if day.hours[zone] > 0 && !day.is_closed(zone) {
             let scale = random.pick(SCALES);
             for place in part.iter_mut().take(users) {
@@ -81,6 +87,14 @@ pub fn day(random: &mut Random, users: usize) -> (Day, Vec<i64>) {
         }
     }
     (day, table)
+}
+
+/// A total that leaves room for what a call adds at most: every user's whole position.
+fn total(random: &mut Random) -> i64 {
+    let added = limits::PLACES as i64 * limits::POSITION.end();
+    let room = limits::TOTAL.end() - added;
+    let any = random.between(0, room);
+    random.pick([0, 1, room, any, any, any])
 }
 
 /// An hour of the kind for the zone's places in the table, `start` (places that it
@@ -143,6 +157,7 @@ pub fn odd_number(random: &mut Random) -> i64 {
         50_000_000,
         100_000_000,
         1_000_000_000,
+        *limits::TOTAL.end(),
         i64::MAX,
         i64::MIN,
     ]);

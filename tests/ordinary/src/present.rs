@@ -3,7 +3,7 @@
 //!
 //! A cause that speaks of the zone is taken to apply where the zone is not 0 or 1 if it
 //! applies to both; where lengths differ, a user lacks what is not there; cause 6 reads
-//! the record's length as it is, also one that a day cannot have; and causes 22 to 24 take a
+//! the record's length as it is, also one that a day cannot have; and causes 22 to 25 take a
 //! position or a threshold that is out of its range as the end of the range.
 
 use crate::limits;
@@ -12,12 +12,18 @@ use crate::spoilt_writing::Writing;
 
 /// Those of the hour's causes that apply.
 pub fn hour_causes(call: &Call) -> Vec<u64> {
-    causes_with(call, &[call.quantity.len(), call.money.len(), call.scratch.len()])
+    with_totals(call, causes_with(call, &[call.quantity.len(), call.money.len(), call.scratch.len()]))
 }
 
 /// Those of the preview's causes that apply: the hour's, of which 3 speaks of one list more.
 pub fn preview_causes(call: &Call) -> Vec<u64> {
-    causes_with(call, &[call.quantity.len(), call.money.len(), call.scratch.len(), call.after.len()])
+    with_totals(call, causes_with(call, &[call.quantity.len(), call.money.len(), call.scratch.len(), call.after.len()]))
+}
+
+/// These, and the last of an hour and of a preview.
+fn with_totals(call: &Call, mut causes: Vec<u64>) -> Vec<u64> {
+    causes.extend(numbered_from(25, &[of_zone(call, |zone| total_passed(call, zone, added_by_hour(call, zone)))]));
+    causes
 }
 
 /// Those of the judged hour's causes that apply: the hour's, of which 3 speaks of the quantity
@@ -69,7 +75,9 @@ pub fn closing_causes(call: &Call) -> Vec<u64> {
         table(call),
         prices(call),
     ];
-    numbered(&applies)
+    let mut causes = numbered(&applies);
+    causes.extend(numbered_from(25, &[of_zone(call, |zone| total_passed(call, zone, added_by_closing(call, zone)))]));
+    causes
 }
 
 /// Those of the writer's causes that apply; the bytes are too few if they are so for the
@@ -105,7 +113,12 @@ fn record(call: &Call) -> bool {
     };
     let zone_fits = |zone: usize| {
         let hours = call.day.hours[zone];
-        (0..=last).contains(&hours) && (0..=1).contains(&call.day.closed[zone]) && (hours == last || !call.day.is_closed(zone))
+        let totals = [call.day.sold[zone], call.day.bought[zone]];
+        (0..=last).contains(&hours)
+            && (0..=1).contains(&call.day.closed[zone])
+            && (hours == last || !call.day.is_closed(zone))
+            && totals.iter().all(|total| limits::TOTAL.contains(total))
+            && (hours != 0 || totals == [0, 0])
     };
     !limits::USERS.contains(&call.day.users) || !zone_fits(0) || !zone_fits(1)
 }
@@ -175,8 +188,11 @@ struct Judged {
     users: Vec<(i128, i128)>,
 }
 
+fn in_range(number: i128, range: std::ops::RangeInclusive<i64>) -> i128 {
+    number.clamp(i128::from(*range.start()), i128::from(*range.end()))
+}
+
 fn judged(call: &Call, zone: usize) -> Judged {
-    let in_range = |number: i128, range: std::ops::RangeInclusive<i64>| number.clamp(i128::from(*range.start()), i128::from(*range.end()));
     let user = |user: usize| (in_range(position(call, zone, user), limits::POSITION), at(&call.quantity, user));
     let users: Vec<(i128, i128)> = (0..limits::PLACES).map(user).collect();
     let market: i128 = users.iter().map(|(position, _)| position).sum();
@@ -203,4 +219,22 @@ fn share_off(judged: &Judged) -> bool {
 
 fn sum_wrong(judged: &Judged) -> bool {
     judged.users.iter().map(|(_, quantity)| quantity).sum::<i128>() != judged.due
+}
+
+/// What an hour adds to sold and to bought: the excess, or the shortfall taken positive.
+fn added_by_hour(call: &Call, zone: usize) -> [i128; 2] {
+    let due = judged(call, zone).due;
+    [due.max(0), (-due).max(0)]
+}
+
+/// What a closing adds to them: the positions above zero, and those below taken positive.
+fn added_by_closing(call: &Call, zone: usize) -> [i128; 2] {
+    let position = |user: usize| in_range(at(&call.table, zone * limits::PLACES + user), limits::POSITION);
+    let positions = (0..limits::PLACES).map(position);
+    positions.fold([0, 0], |[sold, bought], position| [sold + position.max(0), bought + (-position).max(0)])
+}
+
+fn total_passed(call: &Call, zone: usize, added: [i128; 2]) -> bool {
+    let totals = [call.day.sold[zone], call.day.bought[zone]].map(i128::from);
+    totals.iter().zip(added).any(|(total, added)| total + added > i128::from(*limits::TOTAL.end()))
 }

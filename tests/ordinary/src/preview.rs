@@ -8,7 +8,8 @@ use crate::{check, limits, settle_hour, Day, Outcome, Terms};
 /// of exactly the user count." So a copy is settled, and the positions are taken from it.
 ///
 /// "The same causes apply in the same order, and cause 3 covers the new list. Scratch is as
-/// for an hour, the record comes back unchanged". Causes 2 to 11.
+/// for an hour, the record comes back unchanged". Causes 2 to 11, and by Ask 7 then 25 if
+/// the hour would pass the bound; the totals come back unchanged too.
 #[allow(clippy::too_many_arguments)]
 pub fn preview_hour(
     day: Day,

@@ -6,6 +6,7 @@
 use crate::made_up::{day, hour, odd_beyond, split, Hour, Kind, REACH};
 use crate::random::Random;
 use crate::spoilt_quantities::{right_quantities, QUANTITIES};
+use crate::spoilt_totals::{added_by_hour, lead, Total, CLOSING_TOTALS, HOUR_TOTALS, RECORD_TOTALS};
 use crate::{close_zone, judge_hour, limits, preview_hour, settle_hour, Day, Outcome};
 
 /// What an hour, a preview, a judged hour or a closing is lent and given. A preview alone is
@@ -237,10 +238,7 @@ const NOT_JUDGED: [&str; 2] = ["money list", "scratch"];
 
 /// Of closings alone.
 const CLOSING: [Way; 2] = [
-    way(6, "no hours done", |_, call| {
-        called(call).into_iter().for_each(|zone| call.day.hours[zone] = 0);
-        part(call, call.zone).fill(0);
-    }),
+    way(6, "no hours done", |_, call| called(call).into_iter().for_each(|zone| make_idle(call, zone))),
     way(6, "fewer hours done than the length", |r, call| {
         let hours = below_length(r, call, [1, 12]);
         called(call).into_iter().for_each(|zone| call.day.hours[zone] = hours);
@@ -249,25 +247,25 @@ const CLOSING: [Way; 2] = [
 
 /// The ways to spoil an hour, by cause.
 pub fn hour_ways() -> Vec<&'static Way> {
-    by_cause(&[&SHARED, &OTHER_ZONE, &PRICES, &HOUR])
+    by_cause(&[&SHARED, &RECORD_TOTALS, &OTHER_ZONE, &PRICES, &HOUR, &HOUR_TOTALS])
 }
 
 /// The ways to spoil a preview, by cause: those of an hour among them.
 pub fn preview_ways() -> Vec<&'static Way> {
-    by_cause(&[&SHARED, &OTHER_ZONE, &PRICES, &HOUR, &PREVIEW])
+    by_cause(&[&SHARED, &RECORD_TOTALS, &OTHER_ZONE, &PRICES, &HOUR, &HOUR_TOTALS, &PREVIEW])
 }
 
-/// The ways to spoil a judged hour, by cause: those of an hour, but for what it is not lent, and
-/// those of the operator's quantities.
+/// The ways to spoil a judged hour, by cause: those of an hour, but for what it is not lent and
+/// for cause 25, and those of the operator's quantities.
 pub fn judged_ways() -> Vec<&'static Way> {
-    let mut ways = by_cause(&[&SHARED, &OTHER_ZONE, &PRICES, &HOUR, &QUANTITIES]);
+    let mut ways = by_cause(&[&SHARED, &RECORD_TOTALS, &OTHER_ZONE, &PRICES, &HOUR, &QUANTITIES]);
     ways.retain(|way| !NOT_JUDGED.contains(&way.part));
     ways
 }
 
 /// The ways to spoil a closing, by cause.
 pub fn closing_ways() -> Vec<&'static Way> {
-    by_cause(&[&SHARED, &OTHER_ZONE, &PRICES, &CLOSING])
+    by_cause(&[&SHARED, &RECORD_TOTALS, &OTHER_ZONE, &PRICES, &CLOSING, &CLOSING_TOTALS])
 }
 
 fn by_cause(lists: &[&'static [Way]]) -> Vec<&'static Way> {
@@ -281,10 +279,16 @@ pub fn fit_hour(random: &mut Random, zone: i64) -> Call {
     fit(random, zone, |hours, length| hours < length)
 }
 
-/// The same with a quantity list that is accepted when it is judged.
+/// The same with a quantity list that is accepted when it is judged. Now and then the hour itself
+/// would pass the bound of a total, which does not matter to a judge.
 pub fn fit_judged(random: &mut Random, zone: i64) -> Call {
     let mut call = fit_hour(random, zone);
     call.quantity = right_quantities(random, &call);
+    if random.one_in(4) {
+        for total in Total::ALL {
+            lead(&mut call, added_by_hour, total, 1);
+        }
+    }
     call
 }
 
@@ -311,7 +315,7 @@ fn fit(random: &mut Random, zone: i64, hours_fit: fn(i64, i64) -> bool) -> Call 
 }
 
 /// The zone that is called, if it is one.
-fn called(call: &Call) -> Option<usize> {
+pub(crate) fn called(call: &Call) -> Option<usize> {
     usize::try_from(call.zone).ok().filter(|&zone| zone < 2)
 }
 
@@ -382,13 +386,23 @@ fn close(random: &mut Random, call: &mut Call) {
 }
 
 /// The zone has hours done and is open, so that its users may have positions.
-fn in_use(call: &mut Call, zone: usize) {
+pub(crate) fn in_use(call: &mut Call, zone: usize) {
     if call.day.hours[zone] == 0 || call.day.is_closed(zone) {
         call.day.hours[zone] = 1;
         call.day.closed[zone] = 0;
         if called(call) == Some(zone) {
             call.hour = 2;
         }
+    }
+}
+
+/// The zone is open and has no hours done, and so no positions and totals of zero.
+pub(crate) fn make_idle(call: &mut Call, zone: usize) {
+    (call.day.hours[zone], call.day.closed[zone]) = (0, 0);
+    (call.day.sold[zone], call.day.bought[zone]) = (0, 0);
+    part(call, zone as i64).fill(0);
+    if called(call) == Some(zone) {
+        call.hour = 1;
     }
 }
 
@@ -414,16 +428,13 @@ fn beyond_users(random: &mut Random, call: &mut Call, zone: i64) {
 
 /// A zone that is closed, or else one with no hours done, has one place that is not zero.
 fn fill_idle(random: &mut Random, call: &mut Call, zone: i64, closed: bool) {
-    let hours = if closed { call.day.length } else { 0 };
-    call.day.hours[zone as usize] = hours;
-    call.day.closed[zone as usize] = i64::from(closed);
-    if call.zone == zone {
-        call.hour = hours.saturating_add(1);
+    make_idle(call, zone as usize);
+    if closed {
+        call.day.hours[zone as usize] = call.day.length;
+        call.day.closed[zone as usize] = 1;
     }
     let place = some_place(random, call.day.users as usize);
-    let part = part(call, zone);
-    part.fill(0);
-    part[place] = random.pick([1, -1, 100_000_000, -100_000_000]);
+    part(call, zone)[place] = random.pick([1, -1, 100_000_000, -100_000_000]);
 }
 
 /// One of so many places: often the first or the last.

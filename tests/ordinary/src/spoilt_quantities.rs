@@ -47,7 +47,8 @@ impl Due {
     }
 }
 
-fn positions(call: &Call) -> Vec<i64> {
+/// The positions before settlement of a call that is fit.
+pub(crate) fn positions(call: &Call) -> Vec<i64> {
     let start = call.zone as usize * limits::PLACES;
     let a = &call.amounts;
     (0..a.entry.len())

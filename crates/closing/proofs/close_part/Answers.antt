@@ -15,10 +15,7 @@ money_all-requires c =
     let b = prices_small _ _ c.requires.prices in
     let e = read_le k.excess_price price_most b.excess in
     let f = read_le k.shortfall_price price_most b.shortfall in
-    (omega (arith, e, f), omega (arith, e, f), money_asked c.requires, (quantity_asked c.requires).1)
-
-pub sums_of-sums-requires : goal.sums_of-sums-requires
-sums_of-sums-requires c = quantity_asked c.requires
+    (omega (arith, e, f), omega (arith, e, f), money_asked c.requires, quantity_asked c.requires)
 
 pub returns : goal.returns
 returns c =
@@ -26,9 +23,7 @@ returns c =
     let b = prices_small _ _ c.requires.prices in
     let e = read (fits k.excess_price (omega (arith, b.excess))) in
     let f = read (fits k.shortfall_price (omega (arith, b.shortfall))) in
-    part_left c.requires _ _ _ _ (record { quantity = search rules; money = search rules })
+    part_left c.requires _ _ (record { quantity = search rules; money = search rules })
     c.copy_from_slice.ensures.after
     (rw (e, f) at c.money_all.ensures)
-    c.sums_of-sums.ensures.0
-    c.sums_of-sums.ensures.1
     (c.fill.ensures.after (λ (x : ℤ) (e : x ≡ pos 0). e))

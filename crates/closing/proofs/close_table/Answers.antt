@@ -24,8 +24,8 @@ pub close_part-requires-else-terms-eq0 : goal.close_part-requires-else-terms-eq0
 close_part-requires-else-terms-eq0 c = rw (part_l _ _ (l_zone (goal.at.close_part-requires-else-terms-eq0 c).Else-terms-eq0)) at c.requires.lists
 
 pub returns-then-terms-eq0 : goal.returns-then-terms-eq0
-returns-then-terms-eq0 c = left_h c.requires _ _ _ _ _ (h_zone (goal.at.returns-then-terms-eq0 c).Then-terms-eq0) c.close_part.ensures
+returns-then-terms-eq0 c = left_h c.requires _ _ _ (h_zone (goal.at.returns-then-terms-eq0 c).Then-terms-eq0) c.close_part.ensures
 
 pub returns-else-terms-eq0 : goal.returns-else-terms-eq0
 returns-else-terms-eq0 c =
-    left_l c.requires _ _ _ _ _ (l_zone (goal.at.returns-else-terms-eq0 c).Else-terms-eq0) c.close_part-else-terms-eq0.ensures
+    left_l c.requires _ _ _ (l_zone (goal.at.returns-else-terms-eq0 c).Else-terms-eq0) c.close_part-else-terms-eq0.ensures

@@ -1,6 +1,6 @@
 -- By the imbalance that was found. Assumes nothing.
 use mathlib.Core.Path.{◌≡◌, ap, ◌∙◌}
-use Rattle.integers.proofs.Machine.{back, read_le}
+use Rattle.integers.proofs.Machine.{read, read_le}
 use Rattle.rules.specs.Limits.{market_most}
 use Rattle.rules.specs.Market.{Imbalance, imbalance}
 use Rattle.rules.specs.Judging.{quantities_cause}
@@ -14,13 +14,10 @@ use Rattle.judging.proofs.part_quantities_cause.Goals as goal
 against : (c : After-imbalance_of-imbalance)
     → found c.imbalance_of-imbalance.result ≡ imbalance c.args.terms.upper c.args.terms.lower (befores c.args.part.now c.args.amounts.now)
 unfolding imbalance
-against c = rw (back c.market_of-market.result c.market_of-market.type_inv, c.market_of-market.ensures) at c.imbalance_of-imbalance.ensures
+against c = rw (read c.ranges.market, c.requires.market) at c.imbalance_of-imbalance.ensures
 
 pub imbalance_of-imbalance-requires : goal.imbalance_of-imbalance-requires
-imbalance_of-imbalance-requires c = (
-  c.requires.terms,
-  read_le c.market_of-market.result market_most (rw c.market_of-market.ensures (market_asked c.requires)),
-)
+imbalance_of-imbalance-requires c = (c.requires.terms, read_le c.args.market market_most (market_asked c.requires))
 
 pub quantities_cause-requires : goal.quantities_cause-requires
 quantities_cause-requires c = found_asked c.requires _ (against (goal.at.quantities_cause-requires c).After-imbalance_of-imbalance)

@@ -1,7 +1,7 @@
 -- The zone is settled on a copy of the first places of its part. Assumes nothing.
 use mathlib.Core.Path.{◌≡◌}
 use lib.ListN.{length, take}
-use Rattle.integers.proofs.Machine.{back}
+use Rattle.integers.proofs.Machine.{read, back}
 use Rattle.rules.specs.Days.{part}
 use Rattle.settlement.proofs.Tables.{users_asked, copy_left}
 use borrow.Author.Rules.{rules}
@@ -14,7 +14,7 @@ copied c = rw (c.requires.1, back c.args.terms.zone (search rules)) at c.copy_pl
 pub settle_zone-requires : goal.settle_zone-requires
 settle_zone-requires c =
     let a = c.args in
-    rw (copied (goal.at.settle_zone-requires c).After-copy_places) (users_asked _ a.amounts.now a.terms _ _ c.requires.0.lists).1
+    rw (copied (goal.at.settle_zone-requires c).After-copy_places, read c.ranges.market) (users_asked _ a.amounts.now a.terms a.market _ _ c.requires.0.lists).1
 
 pub returns : goal.returns
 returns c =

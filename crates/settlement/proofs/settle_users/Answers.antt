@@ -3,7 +3,7 @@ use mathlib.Core.Path.{◌≡◌, sym, ap, ◌∙◌}
 use mathlib.Core.Bool.{true, false}
 use Prim.Native.Nat.{ℕ}
 use lib.IntN.{ℤ, pos}
-use Rattle.integers.proofs.Machine.{read, back, fits, read_le}
+use Rattle.integers.proofs.Machine.{read, fits, read_le}
 use Rattle.rules.specs.Limits.{market_most}
 use Rattle.rules.specs.declared.Side.TheVariants.{Excess, Shortfall}
 use Rattle.rules.specs.declared.Outcome.TheVariants.{Settled}
@@ -11,7 +11,7 @@ use Rattle.rules.specs.Market.{imbalance, outcome}
 use Rattle.positions.specs.declared.Imbalance.{Imbalance}
 use Rattle.positions.specs.Against.{found}
 use Rattle.sides.specs.Sides.{side}
-use Rattle.settlement.proofs.Users.{sum_asked, market_small, side-fits, side_asked, side_left, within_left}
+use Rattle.settlement.proofs.Users.{market_is, market_small, side-fits, side_asked, side_left, within_left}
 use borrow.Author.Rules.{rules}
 use native.Mathlib.Omega.{arith}
 use Rattle.settlement.proofs.settle_users.Goals.{After-imbalance_of}
@@ -23,15 +23,12 @@ against : (c : After-imbalance_of) {i : Imbalance} → c.imbalance_of.result ≡
 unfolding imbalance
 against c is =
     sym (ap found is)
-    ∙ rw (back c.sum_of-market.result c.sum_of-market.type_inv, c.sum_of-market.ensures) at c.imbalance_of.ensures
-
-pub sum_of-market-requires : goal.sum_of-market-requires
-sum_of-market-requires c = sum_asked c.requires.1 _ c.add_amounts.ensures
+    ∙ rw (read c.ranges.market, market_is c.requires.1 _ c.add_amounts.ensures) at c.imbalance_of.ensures
 
 pub imbalance_of-requires : goal.imbalance_of-requires
 imbalance_of-requires c = (
   c.requires.1.terms,
-  read_le c.sum_of-market.result market_most (rw c.sum_of-market.ensures (market_small c.requires.1 _ c.add_amounts.ensures)),
+  read_le c.args.market market_most (rw (market_is c.requires.1 _ c.add_amounts.ensures) (market_small c.requires.1 _ c.add_amounts.ensures)),
 )
 
 -- ---- in an excess

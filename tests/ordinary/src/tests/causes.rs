@@ -5,25 +5,16 @@ use crate::default_thresholds;
 
 const ENDS: [i64; 2] = [i64::MIN, i64::MAX];
 
-/// A day of two users with one hour done in H and all 24 in L.
-fn busy() -> Bench {
-    let mut bench = Bench::opened(2);
-    bench.day.hours = [1, 24];
-    bench.table[..2].copy_from_slice(&[10, -10]);
-    bench.table[128..130].copy_from_slice(&[20, -30]);
-    bench
-}
-
 /// The answer of hour 2 of H with no amounts, after the change.
 fn hour_after(change: impl Fn(&mut Bench, &mut Hour)) -> Result<Outcome, u64> {
-    let (mut bench, mut hour) = (busy(), zeros(2, NONE));
+    let (mut bench, mut hour) = (closable(), zeros(2, NONE));
     change(&mut bench, &mut hour);
     bench.hour(0, 2, &hour)
 }
 
 /// The answer of closing L, after the change.
 fn close_after(change: impl Fn(&mut Bench)) -> Result<(i64, i64), u64> {
-    let mut bench = busy();
+    let mut bench = closable();
     change(&mut bench);
     bench.close(1, (1, 1))
 }
@@ -104,8 +95,8 @@ fn cause_3_lengths() {
 #[test]
 fn cause_4_zone() {
     for zone in [-1, 2, 256, i64::MIN, i64::MAX] {
-        assert_eq!(busy().hour(zone, 2, &zeros(2, NONE)), Err(4));
-        assert_eq!(busy().close(zone, (1, 1)), Err(4));
+        assert_eq!(closable().hour(zone, 2, &zeros(2, NONE)), Err(4));
+        assert_eq!(closable().close(zone, (1, 1)), Err(4));
         assert_eq!(default_thresholds(1, zone), Err(4));
         assert_eq!(default_thresholds(0, zone), Err(4));
     }
@@ -113,7 +104,7 @@ fn cause_4_zone() {
 
 #[test]
 fn cause_5_closed() {
-    let mut bench = busy();
+    let mut bench = closable();
     bench.close(1, (1, 1)).unwrap();
     assert_eq!(bench.close(1, (1, 1)), Err(5));
     assert_eq!(bench.hour(1, 24, &zeros(2, NONE)), Err(5));
@@ -122,12 +113,12 @@ fn cause_5_closed() {
 #[test]
 fn cause_6_hour() {
     for hour in [0, 1, 3, 24, 25, -1, i64::MIN, i64::MAX] {
-        assert_eq!(busy().hour(0, hour, &zeros(2, NONE)), Err(6));
+        assert_eq!(closable().hour(0, hour, &zeros(2, NONE)), Err(6));
     }
     for hour in [1, 24, 25, i64::MIN, i64::MAX] {
-        assert_eq!(busy().hour(1, hour, &zeros(2, NONE)), Err(6));
+        assert_eq!(closable().hour(1, hour, &zeros(2, NONE)), Err(6));
     }
-    assert_eq!(busy().close(0, (1, 1)), Err(6));
+    assert_eq!(closable().close(0, (1, 1)), Err(6));
     assert_eq!(close_after(|bench| bench.day.hours[1] = 23), Err(6));
 }
 
@@ -171,8 +162,8 @@ fn cause_8_terms() {
             hour_after(|_, hour| hour.terms.shortfall_price = price),
             Err(8)
         );
-        assert_eq!(busy().close(1, (price, 0)), Err(8));
-        assert_eq!(busy().close(1, (0, price)), Err(8));
+        assert_eq!(closable().close(1, (price, 0)), Err(8));
+        assert_eq!(closable().close(1, (0, price)), Err(8));
     }
     for upper in [-1, 1_000_000_001, ENDS[0], ENDS[1]] {
         assert_eq!(hour_after(|_, hour| hour.terms.upper = upper), Err(8));
@@ -256,7 +247,7 @@ fn the_lowest_cause_is_given() {
 /// Causes 4 to 6 among each other and with those around them.
 #[test]
 fn zone_then_closed_then_hour() {
-    let mut bench = busy();
+    let mut bench = closable();
     bench.close(1, (1, 1)).unwrap();
     bench.table[255] = 1;
     let unfit = zeros(2, Terms { upper: -1, ..NONE });

@@ -25,6 +25,8 @@ fn users_1_and_128() {
             length: 24,
             hours: [0; 2],
             closed: [0; 2],
+            sold: [0; 2],
+            bought: [0; 2],
         };
         assert_eq!(open(users, 24, &mut table), Ok(day));
         assert_eq!(table, [0; 256]);

@@ -234,20 +234,7 @@ fn each_cause_over_all_users_before_the_next() {
     on_both_sides(&[4, 3, 3, -1], 4, &lists);
 }
 
-/// A day of two users, in which hour 2 of H and hour 24 of L are next.
-fn busy() -> Bench {
-    let mut bench = Bench::opened(2);
-    bench.day.hours = [1, 23];
-    bench.table[..2].copy_from_slice(&[10, -10]);
-    bench.table[128..130].copy_from_slice(&[20, -30]);
-    bench
-}
-
-/// An hour of `busy` with shares of 24 3/4 and 8 1/4 in H, and in L of 23 and none.
-fn large() -> Hour {
-    titles(&[20, 20], Terms { upper: 7, ..NONE })
-}
-
+/// The shares of `large` are 24 3/4 and 8 1/4 in H, and in L 23 and none.
 #[test]
 fn each_zone_from_its_own_part() {
     for (quantity, [h, l]) in [
@@ -466,6 +453,7 @@ fn what_an_accepted_list_leaves() {
         let mut call = fit_judged(&mut random, round % 2);
         let (before, terms) = (positions(&call), call.amounts.terms);
         let mut settled = call.clone();
+        (settled.day.sold, settled.day.bought) = ([0; 2], [0; 2]);
         settled.settle().unwrap();
         others += usize::from(settled.quantity != call.quantity);
         for quantity in [settled.quantity, call.quantity.clone()] {

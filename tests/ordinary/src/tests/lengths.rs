@@ -53,6 +53,8 @@ fn opening_keeps_each_length() {
             length,
             hours: [0; 2],
             closed: [0; 2],
+            sold: [0; 2],
+            bought: [0; 2],
         };
         assert_eq!(open(7, length, &mut table), Ok(day));
         assert_eq!(table, [0; 256]);
@@ -138,6 +140,8 @@ fn a_whole_day_of_each_length() {
             length,
             hours: [length; 2],
             closed: [1; 2],
+            sold: [3 * length; 2],
+            bought: [length; 2],
         };
         assert_eq!(bench.day, both);
         assert_eq!(bench.table, [0; 256]);

@@ -125,10 +125,17 @@ fn every_kind_of_hour_is_what_it_says() {
     }
 }
 
+/// Adds the positive and the negative quantities, as sizes, to what was sold and bought.
+fn add([sold, bought]: &mut [i64; 2], quantity: &[i64]) {
+    *sold += quantity.iter().filter(|quantity| **quantity > 0).sum::<i64>();
+    *bought -= quantity.iter().filter(|quantity| **quantity < 0).sum::<i64>();
+}
+
 /// "At the end the first equals the second plus the user's place in the zone's part of
 /// the table", over a list of accepted and refused calls. Ask 3: "The conservation rule is
 /// shown once for all lengths." Ask 5: "no sum over history counts a preview", of which there
-/// is one before each hour.
+/// is one before each hour. Ask 7: the totals "equal the sums of the positive and of the negative
+/// quantities answered since opening".
 #[test]
 fn conservation_over_lists_of_calls() {
     let mut random = Random::new(2);
@@ -139,6 +146,7 @@ fn conservation_over_lists_of_calls() {
         let length = random.pick([23, 24, 25]);
         let mut bench = Bench::of_length(users, length);
         let (mut given, mut settled) = (vec![0_i128; 256], vec![0_i128; 256]);
+        let mut totals = [[0; 2]; 2];
         for _ in 0..120 {
             let zone = random.below(2);
             let part = zone * 128;
@@ -147,6 +155,7 @@ fn conservation_over_lists_of_calls() {
                     accepted[1] += 1;
                     closed_days[length as usize - 23] += 1;
                     (0..users).for_each(|g| settled[part + g] += i128::from(bench.quantity[g]));
+                    add(&mut totals[zone], &bench.quantity);
                 }
                 continue;
             }
@@ -164,7 +173,9 @@ fn conservation_over_lists_of_calls() {
                     given[part + g] += amounts.map(i128::from).iter().sum::<i128>();
                     settled[part + g] += i128::from(bench.quantity[g]);
                 }
+                add(&mut totals[zone], &bench.quantity);
             }
+            assert_eq!([0, 1].map(|zone| [bench.day.sold[zone], bench.day.bought[zone]]), totals);
         }
         for place in 0..256 {
             assert_eq!(
@@ -178,12 +189,12 @@ fn conservation_over_lists_of_calls() {
 }
 
 /// Calls with odd numbers anywhere never panic, and a refusal changes nothing (which
-/// the bench checks). A judged hour is refused by what the hour is refused by.
+/// the bench checks). A judged hour is refused by what the hour is refused by, but for 25.
 #[test]
 fn odd_calls() {
     let mut random = Random::new(3);
-    let mut causes = [0; 18];
-    for _ in 0..6_000 {
+    let mut causes = [0; 26];
+    for _ in 0..8_000 {
         let users = random.pick([1, 2, 128]);
         let (record, table) = day(&mut random, users);
         let mut bench = Bench::opened(users);
@@ -194,7 +205,7 @@ fn odd_calls() {
         let mut hour = hour(&mut random, users, kind, &bench.table[part..]);
         let mut number = bench.day.hours[zone as usize] + 1;
         let mut called = zone;
-        match random.below(10) {
+        match random.below(12) {
             0 => bench.day.users = odd_number(&mut random),
             1 => bench.day.hours[random.below(2)] = odd_number(&mut random),
             2 => bench.day.closed[random.below(2)] ^= 1,
@@ -204,6 +215,8 @@ fn odd_calls() {
             6 => hour.pooling.truncate(users - 1),
             7 => spoil(&mut random, &mut hour),
             8 => bench.day.length = odd_number(&mut random),
+            9 => bench.day.sold[random.below(2)] = odd_number(&mut random),
+            10 => bench.day.bought[random.below(2)] = odd_number(&mut random),
             _ => (),
         }
         let prices = (hour.terms.excess_price, hour.terms.shortfall_price);
@@ -211,7 +224,7 @@ fn odd_calls() {
         let quantity: Vec<i64> = (0..users).map(|_| odd_number(&mut random)).collect();
         let judged = bench.judge(called, number, &hour, &quantity);
         let answer = bench.hour(called, number, &hour);
-        assert_eq!(judged.err().filter(|&cause| cause < 22), answer.err());
+        assert_eq!(judged.err().filter(|&cause| cause < 22), answer.err().filter(|&cause| cause < 22));
         if let Err(cause) = answer {
             causes[cause as usize] += 1;
         }
@@ -219,7 +232,7 @@ fn odd_calls() {
             causes[cause as usize] += 1;
         }
     }
-    assert!(causes[2..=11].iter().all(|&count| count > 0), "{causes:?}");
+    assert!(causes[2..=11].iter().all(|&count| count > 0) && causes[25] > 0, "{causes:?}");
 }
 
 #[test]

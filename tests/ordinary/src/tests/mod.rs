@@ -9,6 +9,7 @@ mod made_up;
 mod preview;
 mod reader;
 mod spoilt;
+mod totals;
 mod writer;
 
 use crate::made_up::Hour;
@@ -58,8 +59,19 @@ impl Bench {
         self.day.users as usize
     }
 
+    /// The record with the quantities of an accepted call added to the zone's totals.
+    fn added(&self, zone: i64) -> Day {
+        let mut day = self.day;
+        for &quantity in &self.quantity {
+            let totals = if quantity > 0 { &mut day.sold } else { &mut day.bought };
+            totals[zone as usize] += quantity.abs();
+        }
+        day
+    }
+
     /// Runs an hour. If refused, checks that all is as it was; if accepted, that the
-    /// scratch is zero and that nothing else of the record and table has changed.
+    /// scratch is zero, that the record has an hour more and the totals with the
+    /// quantities, and that nothing else of it and of the table has changed.
     fn hour(&mut self, zone: i64, hour: i64, given: &Hour) -> Result<Outcome, u64> {
         let old = self.clone();
         let answer = settle_hour(
@@ -82,7 +94,7 @@ impl Bench {
                 Err(cause)
             }
             Ok((day, outcome)) => {
-                let mut expected = old.day;
+                let mut expected = self.added(zone);
                 expected.hours[zone as usize] += 1;
                 assert_eq!(day, expected);
                 self.day = day;
@@ -174,7 +186,7 @@ impl Bench {
                 Err(cause)
             }
             Ok((day, sold, bought)) => {
-                let mut expected = old.day;
+                let mut expected = self.added(zone);
                 expected.closed[zone as usize] = 1;
                 assert_eq!(day, expected);
                 self.day = day;
@@ -211,6 +223,27 @@ fn titles(title: &[i64], terms: Terms) -> Hour {
         pooling: none,
         terms,
     }
+}
+
+/// A day of two users, in which hour 2 of H and hour 24 of L are next.
+fn busy() -> Bench {
+    let mut bench = Bench::opened(2);
+    bench.day.hours = [1, 23];
+    bench.table[..2].copy_from_slice(&[10, -10]);
+    bench.table[128..130].copy_from_slice(&[20, -30]);
+    bench
+}
+
+/// The same with all hours of L done, so that L can be closed: 20 are sold then, and 30 bought.
+fn closable() -> Bench {
+    let mut bench = busy();
+    bench.day.hours[1] = 24;
+    bench
+}
+
+/// An hour of `busy` with an excess, of 33 in H and of 23 in L.
+fn large() -> Hour {
+    titles(&[20, 20], Terms { upper: 7, ..NONE })
 }
 
 /// Settles these positions in hour 1 of zone H.

@@ -9,25 +9,11 @@ fn previewed(positions: &[i64], terms: Terms) -> (Bench, Outcome) {
     (bench, outcome)
 }
 
-/// A day of two users, in which hour 2 of H and hour 24 of L are next.
-fn busy() -> Bench {
-    let mut bench = Bench::opened(2);
-    bench.day.hours = [1, 23];
-    bench.table[..2].copy_from_slice(&[10, -10]);
-    bench.table[128..130].copy_from_slice(&[20, -30]);
-    bench
-}
-
-/// An hour of `busy` that is an excess in either zone.
-fn large() -> Hour {
-    titles(
-        &[20, 20],
-        Terms {
-            upper: 7,
-            excess_price: 3,
-            ..NONE
-        },
-    )
+/// `large` at a price.
+fn priced() -> Hour {
+    let mut hour = large();
+    hour.terms.excess_price = 3;
+    hour
 }
 
 #[test]
@@ -78,10 +64,10 @@ fn a_shortfall_and_a_market_within() {
 #[test]
 fn each_zone_from_its_own_part() {
     let mut bench = busy();
-    assert_eq!(bench.preview(0, 2, &large()), Ok(excess(33, [0b11, 0], 2)));
+    assert_eq!(bench.preview(0, 2, &priced()), Ok(excess(33, [0b11, 0], 2)));
     assert_eq!(bench.quantity, [25, 8]);
     assert_eq!(bench.after, [5, 2]);
-    assert_eq!(bench.preview(1, 24, &large()), Ok(excess(23, [0b01, 0], 1)));
+    assert_eq!(bench.preview(1, 24, &priced()), Ok(excess(23, [0b01, 0], 1)));
     assert_eq!(bench.money, [69, 0]);
     assert_eq!(bench.after, [17, -10]);
     assert_eq!(bench.day, busy().day);
@@ -94,10 +80,10 @@ fn each_zone_from_its_own_part() {
 fn a_preview_books_nothing() {
     let mut bench = busy();
     let other = zeros(2, NONE);
-    bench.preview(0, 2, &large()).unwrap();
+    bench.preview(0, 2, &priced()).unwrap();
     let first = bench.clone();
     bench.preview(0, 2, &other).unwrap();
-    bench.preview(0, 2, &large()).unwrap();
+    bench.preview(0, 2, &priced()).unwrap();
     assert_eq!(bench, first);
     assert_eq!(bench.preview(0, 3, &other), Err(6));
     let mut without = busy();
@@ -144,9 +130,9 @@ fn cause_3_the_positions_after() {
         for places in [0, 1, 3, 127, 128, 256] {
             let mut bench = busy();
             bench.after.resize(places, 74);
-            assert_eq!(bench.preview(zone, hour, &large()), Err(3));
+            assert_eq!(bench.preview(zone, hour, &priced()), Err(3));
             // An hour is not lent this list.
-            assert!(bench.hour(zone, hour, &large()).is_ok());
+            assert!(bench.hour(zone, hour, &priced()).is_ok());
         }
     }
     for (users, places) in [(1, 0), (1, 2), (128, 127), (128, 129)] {
@@ -171,7 +157,7 @@ fn cause_3_in_its_turn() {
     ];
     for (cause, fault) in faults {
         for places in [1, 2, 3] {
-            let (mut bench, mut hour) = (busy(), large());
+            let (mut bench, mut hour) = (busy(), priced());
             hour.title[0] = 50_000_000;
             fault(&mut bench, &mut hour);
             bench.after.resize(places, 74);
@@ -181,12 +167,12 @@ fn cause_3_in_its_turn() {
     }
     let mut bench = busy();
     bench.after.pop();
-    assert_eq!(bench.preview(2, 99, &large()), Err(3));
+    assert_eq!(bench.preview(2, 99, &priced()), Err(3));
     bench.after.push(74);
-    assert_eq!(bench.preview(2, 99, &large()), Err(4));
-    assert_eq!(bench.preview(0, 99, &large()), Err(6));
+    assert_eq!(bench.preview(2, 99, &priced()), Err(4));
+    assert_eq!(bench.preview(0, 99, &priced()), Err(6));
     bench.after.clear();
-    assert_eq!(bench.preview(0, 99, &large()), Err(3));
+    assert_eq!(bench.preview(0, 99, &priced()), Err(3));
 }
 
 /// A preview of each hour of a day of each length, and of none after the last; the zone closed,

@@ -1,9 +1,11 @@
 //! Fit calls and the ways to spoil them: each brings its cause in days of each length.
 
+use crate::limits;
 use crate::present::{closing_causes, hour_causes, judged_causes, preview_causes};
 use crate::random::Random;
 use crate::spoilt::{closing_ways, fit_closing, fit_hour, fit_judged, hour_ways, judged_ways, preview_ways, Call, Way};
 use crate::spoilt_quantities::spoil_two_users;
+use crate::spoilt_totals::Total;
 
 /// Hours, previews, judged hours, or closings.
 struct Calls {
@@ -187,6 +189,75 @@ fn another_length_alone_is_amiss() {
             assert!(alone.iter().all(|&count| count > 9), "{} {alone:?}", way.part);
         }
     }
+}
+
+/// Of a call that a total spoils all else is fit: with totals of zero it is accepted. Only where
+/// the way takes the hours of the zone that is called, it may be that something else is amiss.
+#[test]
+fn a_total_alone_is_amiss() {
+    let mut random = Random::new(38);
+    for calls in all() {
+        for way in calls.ways.iter().filter(|way| way.part.starts_with("sold") || way.part.starts_with("bought") || way.part.starts_with("both")) {
+            let mut brought = [0; 2];
+            for round in 0..120 {
+                let mut call = (calls.fit)(&mut random, round % 2);
+                (way.spoil)(&mut random, &mut call);
+                let zone = call.zone as usize;
+                if answer(&calls, &call) == Some(way.cause) && call.day.hours[zone] > 0 {
+                    (call.day.sold, call.day.bought) = ([0; 2], [0; 2]);
+                    assert_eq!(answer(&calls, &call), None, "{}", way.part);
+                    brought[zone] += 1;
+                }
+            }
+            assert!(brought[0] + brought[1] > 30, "{} {brought:?}", way.part);
+        }
+    }
+}
+
+/// What is one past the bound comes to the bound if the total is one less: then the call is
+/// accepted, and the record that it answers, but for a preview, has the bound.
+#[test]
+fn ways_of_25_go_just_past_the_bound() {
+    let mut random = Random::new(39);
+    let mut reached = 0;
+    for (number, calls) in all().iter().enumerate() {
+        let of_previews = number == 1;
+        for way in calls.ways.iter().filter(|way| way.cause == 25 && way.part.ends_with("one past the bound")) {
+            for round in 0..200 {
+                let mut call = (calls.fit)(&mut random, round % 2);
+                (way.spoil)(&mut random, &mut call);
+                if answer(calls, &call).is_none() {
+                    continue;
+                }
+                let (zone, total) = (call.zone as usize, if way.part.starts_with("sold") { Total::Sold } else { Total::Bought });
+                total.of(&mut call.day)[zone] -= 1;
+                assert_eq!((calls.call)(&mut call), None);
+                let after = total.of(&mut call.day)[zone];
+                assert_eq!(after == *limits::TOTAL.end(), !of_previews, "{}", way.part);
+                reached += 1;
+            }
+        }
+    }
+    assert!(reached > 400, "{reached}");
+}
+
+/// A judged hour that is fit may be one that itself would be refused by 25, and by nothing else.
+#[test]
+fn fit_judged_hours_may_pass_the_bound() {
+    let mut random = Random::new(40);
+    let mut passing = [0; 2];
+    for round in 0..2_000 {
+        let mut call = fit_judged(&mut random, round % 2);
+        assert_eq!(call.judge(), Ok(()));
+        match call.settle() {
+            Ok(_) => (),
+            Err(cause) => {
+                assert_eq!(cause, 25);
+                passing[call.zone as usize] += 1;
+            }
+        }
+    }
+    assert!(passing.iter().all(|&count| count > 100), "{passing:?}");
 }
 
 /// The place of the only quantity that differs.

@@ -3,8 +3,8 @@ use mathlib.Core.Path.{◌≡◌}
 use mathlib.Core.List.{map}
 use lib.ListN.{take}
 use Rattle.integers.specs.Lists.{sum_ℤ}
-use Rattle.closing.specs.Steps.{sold_of, bought_of}
-use Rattle.closing.proofs.sums_of.Given as goal
+use Rattle.rules.specs.Market.{sold_of, bought_of}
+use Rattle.totals.proofs.sums_of.Given as goal
 
 abbrev pub invariant-loop-traded : goal.invariant-loop-traded
 invariant-loop-traded l =

@@ -1,7 +1,7 @@
 -- The sums of the sizes passed so far. Assumes nothing.
-use mathlib.Core.Path.{◌≡◌, sym, ap, ◌∙◌}
+use mathlib.Core.Path.{◌≡◌, sym, ap, ap₂, ◌∙◌}
 use mathlib.Core.List.{map}
-use lib.IntN.{pos}
+use lib.IntN.{ℤ, pos}
 use lib.ListN.{get_or, length-map}
 use lib.Seq.{take_all}
 use mir.Syntax.{w64}
@@ -11,13 +11,12 @@ use Rattle.integers.proofs.Machine.{back}
 use Rattle.integers.proofs.Counts.{get_or-map_at}
 use Rattle.integers.proofs.Passes.{added-fits, added_next}
 use Rattle.rules.specs.Limits.{position_most}
-use Rattle.rules.specs.Market.{sold, bought}
-use Rattle.closing.specs.Steps.{sold_of, bought_of}
-use Rattle.closing.proofs.Sizes.{at_most_sold, at_most_bought}
+use Rattle.rules.specs.Market.{sold_of, bought_of, sold, bought}
+use Rattle.rules.proofs.Totals.{at_most_sold, at_most_bought}
 use borrow.Author.Rules.{rules}
 use native.Mathlib.Omega.{arith}
-use Rattle.closing.proofs.sums_of.Goals.{After-sold_of-sold, After-bought_of-bought}
-use Rattle.closing.proofs.sums_of.Goals as goal
+use Rattle.totals.proofs.sums_of.Goals.{After-sold_of-sold, After-bought_of-bought}
+use Rattle.totals.proofs.sums_of.Goals as goal
 
 -- the two sizes that are added
 sale : (c : After-sold_of-sold) → to_z w64 (of_z w64 c.sold_of-sold.result) ≡ get_or (map sold_of c.args.quantity.now) c.loop-traded.traded-index (pos 0)
@@ -63,7 +62,7 @@ pub returns : goal.returns
 unfolding sold bought sold_of bought_of
 returns c =
     let l = c.loop-traded in
-    let qs = c.args.quantity.now in (
-      l.invariant.0 ∙ ap sum_ℤ (take_all l.traded-index (map sold_of qs) (omega (arith, length-map qs sold_of))),
-      l.invariant.1 ∙ ap sum_ℤ (take_all l.traded-index (map bought_of qs) (omega (arith, length-map qs bought_of))),
-    )
+    let qs = c.args.quantity.now in
+    ap₂ (λ (s b : ℤ). record { sold = s; bought = b })
+    (l.invariant.0 ∙ ap sum_ℤ (take_all l.traded-index (map sold_of qs) (omega (arith, length-map qs sold_of))))
+    (l.invariant.1 ∙ ap sum_ℤ (take_all l.traded-index (map bought_of qs) (omega (arith, length-map qs bought_of))))

@@ -1,0 +1,2 @@
+-- Why the market position may be added up.
+mod Sizes

@@ -1,0 +1,2 @@
+-- What is small enough to be added.
+pub mod Small

@@ -1,0 +1,2 @@
+-- Why the sums are those of the rules.
+pub mod Hours

@@ -1,0 +1,2 @@
+-- What one call sells and buys.
+pub mod Sums
