@@ -2,9 +2,7 @@
 use Rattle.std.specs.Prelude.{ℕ, ◌≡◌, Bool, ◌&&◌, cond, List, ◌++◌, map, eqb, ℤ, pos, length, drop, Result, Ok, Err}
 use Rattle.text.specs.Bytes.{bytes}
 use Rattle.csv_lines.specs.Lines.{begins, lines}
-use Rattle.allocation_row.specs.Rows.{zone_number}
 use Rattle.allocation_row.specs.declared.Row.{Row}
-use Rattle.allocation_row.specs.declared.Zone.{Zone}
 use Rattle.allocation_row.specs.declared.FileCause.{FileCause}
 use Rattle.allocation_row.specs.declared.FileCause.TheVariants.{Lists, Header}
 use Rattle.allocation_lines.specs.Turns.{File, refused, read, body_of}
@@ -35,8 +33,8 @@ abbrev pub outcome : List ℕ → List ℤ → List ℤ → List ℤ → List �
 outcome s a b c d = cond (all128 (length a) (length b) (length c) (length d)) (file_of s) (refused Lists)
 
 -- "It answers h, z as the zone's number, and the number of lines", all as signed numbers
-abbrev pub answered : ℕ → Zone → ℕ → FileRead
-answered h z n = record { hour = pos h; zone = pos (zone_number z); lines = pos n }
+abbrev pub answered : ℕ → ℕ → ℕ → FileRead
+answered h z n = record { hour = pos h; zone = pos z; lines = pos n }
 
 -- document 01's cause of a refusal, and its three values for a file that is read
 abbrev pub answer_of : File → Result FileRead FileCause

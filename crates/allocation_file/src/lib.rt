@@ -27,7 +27,7 @@ impl From<LinesRead> for FileRead {
     fn from(lines: LinesRead) -> FileRead {
         FileRead {
             hour: i64::from(lines.hour),
-            zone: lines.zone.number(),
+            zone: i64::from(lines.zone),
             lines: i64::from(lines.lines),
         }
     }

@@ -10,7 +10,6 @@ use lib.ListN.{length, get_or, take, drop, set, length-append, take-append-drop}
 use lib.Seq.{take-suc, append_snoc, set_at, length-take-le}
 use Rattle.std.specs.Prelude.{Result, Ok, Err}
 use Rattle.allocation_row.specs.declared.Row.{Row}
-use Rattle.allocation_row.specs.declared.Zone.{Zone}
 use Rattle.allocation_row.specs.declared.FileCause.{FileCause}
 use Rattle.allocation_row.specs.Steps.{Within, Same, Stored}
 use Rattle.allocation_row.specs.declared.Lists.{Lists}
@@ -35,7 +34,7 @@ pub after_refused : {k : ℕ} {n : FileCause} {f : File} {l : Lists} → f ≡ r
 after_refused e = rw e record { answer = refl; same = same_lists; entries = refl; exits = refl; titles = refl; poolings = refl }
 
 -- after the last line
-pub after_end : {k h : ℕ} {z : Zone} {f : File} {l : Lists} → f ≡ read h z [] → After k f l (Ok (record { hour = h; zone = z; lines = k })) l
+pub after_end : {k h z : ℕ} {f : File} {l : Lists} → f ≡ read h z [] → After k f l (Ok (record { hour = h; zone = z; lines = k })) l
 after_end {k} {l = l} e =
     rw e record {
       answer = rw add-zero;
@@ -75,7 +74,7 @@ module _ (k : ℕ) (r : Row) where
   after-rest (read h z rs) n w = let q : ◌≡◌ {A = ℕ} 0 1 = cc w.answer in absurd (omega arith)
 
   -- the row's number at place k, before those of the rows after it
-  put : (f : Row → ℤ) (h : ℕ) (z : Zone) (rs : List Row) (xs : List ℤ) → k < length xs
+  put : (f : Row → ℤ) (h z : ℕ) (rs : List Row) (xs : List ℤ) → k < length xs
       → set (list_from f (k + 1) (read h z rs) xs) k (f r) ≡ list_from f k (read h z (r ∷ rs)) xs
   put f h z rs xs g =
       let e : k + 1 + length rs ≡ k + suc (length rs) = omega arith in

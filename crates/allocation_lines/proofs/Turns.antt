@@ -10,7 +10,6 @@ use Rattle.csv_lines.specs.Steps.{line_at}
 use Rattle.csv_lines.proofs.Lines.{lines_at, lines_end}
 use Rattle.allocation_row.specs.Rows.{row_of, follows}
 use Rattle.allocation_row.specs.declared.Row.{Row}
-use Rattle.allocation_row.specs.declared.Zone.{Zone}
 use Rattle.allocation_row.specs.declared.FileCause.{FileCause}
 use Rattle.allocation_row.specs.declared.FileCause.TheVariants.{Turn, NoLine}
 use Rattle.allocation_lines.specs.Turns.{refused, read, with_row, turn, in_turn, under_first, body_of}
@@ -18,7 +17,7 @@ use Rattle.allocation_lines.specs.Turns.{refused, read, with_row, turn, in_turn,
 -- ---- no line is left
 module _ (s : List ℕ) (at : ℕ) (p : length s ≤ at) where
   -- the lines before are all
-  pub turns_end : (h : ℕ) (z : Zone) (k : ℕ) → in_turn h z (lines (drop at s)) k ≡ read h z []
+  pub turns_end : (h z k : ℕ) → in_turn h z (lines (drop at s)) k ≡ read h z []
   turns_end h z k = rw (lines_end s at p)
 
   -- there was none
@@ -28,10 +27,10 @@ module _ (s : List ℕ) (at : ℕ) (p : length s ≤ at) where
 -- ---- the line l begins at the position
 module _ (s : List ℕ) (at : ℕ) (p : at < length s) (l : List ℕ) (e : l ≡ line_at at s) where
   -- it is taken in its turn
-  turn_here : (h : ℕ) (z : Zone) (k : ℕ) → in_turn h z (lines (drop at s)) k ≡ turn (row_of l) h z k (in_turn h z (lines (drop (at + length l + 2) s)))
+  turn_here : (h z k : ℕ) → in_turn h z (lines (drop at s)) k ≡ turn (row_of l) h z k (in_turn h z (lines (drop (at + length l + 2) s)))
   turn_here h z k = rw (lines_at s at p, e)
 
-  module _ (h : ℕ) (z : Zone) (k : ℕ) where
+  module _ (h z k : ℕ) where
     -- it is refused by itself
     pub turn_faulty : (c : FileCause) → row_of l ≡ Err c → in_turn h z (lines (drop at s)) k ≡ refused c
     turn_faulty c w = turn_here h z k ∙ rw w

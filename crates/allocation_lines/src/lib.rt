@@ -7,14 +7,14 @@ ghost use Rattle.csv_lines.specs.Lines.{lines};
 ghost use Rattle.allocation_lines.specs.Turns.{in_turn, body_of};
 ghost use Rattle.allocation_lines.specs.Steps.{Lent, After};
 
-use allocation_row::{FileCause, Lists, Row, Zone, follows_on, read_row};
+use allocation_row::{FileCause, Lists, Row, follows_on, read_row};
 use csv_lines::line_at;
 
-// What lines that are read say besides their amounts: the hour, the zone and how many lines there are.
+// What lines that are read say besides their amounts: the hour, the zone's number and how many lines there are.
 #[derive(Clone, Copy, PartialEq, Eq)]
 pub struct LinesRead {
     pub hour: u32,
-    pub zone: Zone,
+    pub zone: u32,
     pub lines: u32,
 }
 

@@ -39,7 +39,7 @@ zone_of [] = None
 zone_of (x ∷ []) = cond (eqb x (letter H)) (Some H) (cond (eqb x (letter L)) (Some L) None)
 zone_of (x ∷ y ∷ ys) = None
 
--- seven fields as a row, if each is well-formed
+-- seven fields as a row, if each is well-formed, with the zone's number
 unfoldable pub as_row : Option ℕ → Option Zone → Option ℕ → Option ℤ → Option ℤ → Option ℤ → Option ℤ → Option Row
 as_row None z g a b c d = None
 as_row (Some h) None g a b c d = None
@@ -49,7 +49,7 @@ as_row (Some h) (Some z) (Some g) (Some a) None c d = None
 as_row (Some h) (Some z) (Some g) (Some a) (Some b) None d = None
 as_row (Some h) (Some z) (Some g) (Some a) (Some b) (Some c) None = None
 as_row (Some h) (Some z) (Some g) (Some a) (Some b) (Some c) (Some d) =
-    Some (record { hour = h; zone = z; place = g; entry = a; exit = b; title = c; pooling = d })
+    Some (record { hour = h; zone = zone_number z; place = g; entry = a; exit = b; title = c; pooling = d })
 
 -- the fields of a line, in the header's order
 abbrev pub fields_of : List ℕ → Option Row
@@ -65,5 +65,5 @@ row_of l = cond (is_form l) (ok_or (fields_of l) Field) (Err Form)
 
 -- "All lines have the first line's h and z; g runs 0, 1, 2 and on, to 127 at most": a row may stand at place k, after a first line with
 -- h and z
-abbrev pub follows : ℕ → Zone → ℕ → Row → Bool
-follows h z k r = (eqb r.hour h && eqb (zone_number r.zone) (zone_number z)) && (eqb r.place k && ltb k 128)
+abbrev pub follows : ℕ → ℕ → ℕ → Row → Bool
+follows h z k r = (eqb r.hour h && eqb r.zone z) && (eqb r.place k && ltb k 128)

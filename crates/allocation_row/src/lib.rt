@@ -75,11 +75,11 @@ impl Zone {
     }
 }
 
-// What a line's seven fields say.
+// What a line's seven fields say. (The zone is its number, as the papers have it; `Zone` is what a letter may say.)
 #[derive(Clone, Copy, PartialEq, Eq)]
 pub struct Row {
     pub hour: u32,
-    pub zone: Zone,
+    pub zone: u32,
     pub place: u32,
     pub entry: i64,
     pub exit: i64,
@@ -131,7 +131,7 @@ fn read_fields(line: &[u8]) -> Option<Row>
 {
     Some(Row {
         hour: read_unsigned(field(line, 0))?,
-        zone: read_zone(field(line, 1))?,
+        zone: read_zone(field(line, 1))?.number() as u32,
         place: read_unsigned(field(line, 2))?,
         entry: read_amount(field(line, 3))?,
         exit: read_amount(field(line, 4))?,

@@ -4,10 +4,11 @@ use Rattle.text.specs.Bytes.{comma, line_end}
 use Rattle.text.specs.Decimals.{digits, decimal, field}
 use Rattle.allocation_row.specs.Rows.{letter}
 use Rattle.allocation_row.specs.declared.Row.{Row}
+use Rattle.allocation_text.specs.Text.{zone_by}
 
 -- the hour, the zone's letter and the place, with the commas after them
 unfoldable pub start_text : Row → List ℕ
-start_text r = digits r.hour ++ ((comma ∷ []) ++ ((letter r.zone ∷ []) ++ ((comma ∷ []) ++ (digits r.place ++ (comma ∷ [])))))
+start_text r = digits r.hour ++ ((comma ∷ []) ++ ((letter (zone_by r.zone) ∷ []) ++ ((comma ∷ []) ++ (digits r.place ++ (comma ∷ [])))))
 
 -- the four amounts with the commas between them, and the line's end
 unfoldable pub amounts_text : Row → List ℕ

@@ -6,11 +6,19 @@
 ghost use Rattle.std.specs.Prelude.{◌≡◌, ◌++◌, ◌+◌, ◌≤◌, length};
 ghost use Rattle.text.specs.Bytes.{line_end};
 ghost use Rattle.text.specs.Puts.{Room, Wrote};
-ghost use Rattle.allocation_text.specs.Text.{line_text};
+ghost use Rattle.allocation_text.specs.Text.{zone_by, line_text};
 ghost use Rattle.allocation_text.specs.Steps.{start_text, amounts_text, line_most};
 
-use allocation_row::Row;
+use allocation_row::{Row, Zone};
 use text::writing::{Writer, decimal_length, digit_count};
+
+// The zone that a row's number stands for: 0 is H, any other L. (No `From`: not every number is a zone's.)
+#[tactic(auto, unfolding(crate::specs::Text::zone_by))]
+fn zone_by(number: u32) -> Zone
+    ensures { result ≡ zone_by number }
+{
+    if number == 0 { Zone::H } else { Zone::L }
+}
 
 // How many bytes a row's line has: its numbers, the zone's letter, six commas and the line's end. (`as`, here and below, only widens: `u64::from` is
 // a call, whose equation each answer after it would have to carry on, and says no more.)
@@ -30,7 +38,7 @@ fn write_start(writer: &mut Writer, row: Row)
     ensures { Wrote writer.old writer.new (start_text row) }
 {
     writer.digits(row.hour as u64);
-    writer.bytes(&[b',', row.zone.letter(), b',']);
+    writer.bytes(&[b',', zone_by(row.zone).letter(), b',']);
     writer.digits(row.place as u64);
     writer.byte(b',');
 }

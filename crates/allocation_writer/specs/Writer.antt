@@ -1,5 +1,5 @@
 -- The text of an hour's file, and the call that writes it. Assumes nothing.
-use Rattle.std.specs.Prelude.{ℕ, ◌≡◌, Bool, ◌&&◌, cond, List, [], ◌∷◌, ◌++◌, map, eqb, leb, ℤ, pos, nat_abs, length, get_or, drop, Result, Ok}
+use Rattle.std.specs.Prelude.{ℕ, ◌≡◌, Bool, ◌&&◌, List, [], ◌∷◌, ◌++◌, map, eqb, leb, ℤ, pos, nat_abs, length, get_or, drop, Result, Ok}
 use Rattle.std.specs.Int.Signed.{le_z}
 use Rattle.integers.specs.Lists.{every, tabulate}
 use Rattle.integers.specs.Ranges.{natural}
@@ -9,8 +9,6 @@ use Rattle.rules.specs.Refusals.{unless, ◌then◌, by_cause}
 use Rattle.text.specs.Bytes.{line_end}
 use Rattle.text.specs.Decimals.{digits}
 use Rattle.allocation_row.specs.declared.Row.{Row}
-use Rattle.allocation_row.specs.declared.Zone.{Zone}
-use Rattle.allocation_row.specs.declared.Zone.TheVariants.{H, L}
 use Rattle.allocation_file.specs.File.{header}
 use Rattle.allocation_text.specs.Text.{line_text}
 use Rattle.allocation_writer.specs.declared.WriteCause.{WriteCause}
@@ -35,15 +33,11 @@ content h z n a = content_listed h z n a.entries.now a.exits.now a.titles.now a.
 
 -- ---- the text
 
--- "Zones: 0 is H, 1 is L."
-unfoldable pub zone_by : ℤ → Zone
-zone_by number = cond (eqb (natural number) 0) H L
-
 -- the row at place k
 unfoldable pub row_at : Content → ℕ → Row
 row_at w k = record {
   hour = natural w.hour;
-  zone = zone_by w.zone;
+  zone = natural w.zone;
   place = k;
   entry = get_or w.entry k (pos 0);
   exit = get_or w.exit k (pos 0);

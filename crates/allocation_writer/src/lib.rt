@@ -11,7 +11,6 @@ ghost use Rattle.allocation_text.specs.Steps.{line_most};
 ghost use Rattle.allocation_writer.specs.Writer.{
   number,
   content,
-  zone_by,
   row_at,
   lists_fit,
   count_fit,
@@ -26,7 +25,7 @@ ghost use Rattle.allocation_writer.specs.Writer.{
 ghost use Rattle.allocation_writer.specs.Steps.{content_of, Tested, lines_text};
 
 use allocation_file::HEADER;
-use allocation_row::{Row, Zone};
+use allocation_row::Row;
 use allocation_text::{line_length, write_line};
 use rules::{Amounts, require};
 use text::writing::{Writer, digit_count};
@@ -63,18 +62,6 @@ fn all_nine_digits(list: &[i64]) -> bool
     ensures { result ≡ every nine_digits list.now }
 {
     list.iter().all(|x| nine_digits(*x))
-}
-
-// The zone of a number that passes the test of cause 18. (No `From`: not every number is a zone's.)
-#[tactic(auto, unfolding(crate::specs::Writer::zone_by))]
-fn zone_by(number: i64) -> Zone
-    ensures { result ≡ zone_by number }
-{
-    if integers::natural(number) == 0 {
-        Zone::H
-    } else {
-        Zone::L
-    }
 }
 
 // What the call is given to write: "hour, zone, user count and four lists". (The zone stays a number: any may be given, and cause 18 is for those that name none.)
@@ -134,7 +121,7 @@ impl HourFile<'_> {
         let a = self.amounts;
         Row {
             hour: self.hour as u32,
-            zone: zone_by(self.zone),
+            zone: self.zone as u32,
             place: place as u32,
             entry: a.entries[place],
             exit: a.exits[place],

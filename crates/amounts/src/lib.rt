@@ -31,6 +31,13 @@ struct Befores {
     market: i64,
 }
 
+// Through the constructor, which alone says what a position is.
+fn is_position(before: i64) -> bool
+    ensures { result ≡ position_fit before }
+{
+    Position::checked(before).is_some()
+}
+
 // The sums are safe, since every amount is in its range.
 fn befores_of(part: &[i64], amounts: &Amounts) -> Befores
     requires { InRange part.now amounts.now }
@@ -43,7 +50,7 @@ fn befores_of(part: &[i64], amounts: &Amounts) -> Befores
     // a tenth more instructions.
     for user in 0..amounts.entries.len() {
         let before = positions::before_at(part, amounts, user);
-        fit &= Position::fits(before);
+        fit &= is_position(before);
         market += before;
     }
     Befores { fit, market }

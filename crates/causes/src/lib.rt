@@ -89,7 +89,8 @@ fn inputs_cause(day: Day, table: &[i64], terms: HourTerms, amounts: &Amounts) ->
         then Ok (sum_ℤ (before day table.now (inputs_given terms amounts.now)))) }
 {
     require(ranges::zone_fit(terms.zone), Cause::Zone)?;
-    require(zone_open(terms.zone, day), Cause::Closed)?;
+    let open = zone_open(terms.zone, day);
+    require(open, Cause::Closed)?;
     require(day_record::hour_next(day, terms), Cause::Hour)?;
     require(places::table_fit(day, table), Cause::Table)?;
     require(ranges::terms_fit(terms), Cause::Terms)?;

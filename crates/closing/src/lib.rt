@@ -48,7 +48,7 @@ fn close_part(part: &mut [i64], terms: ClosingTerms, outputs: &mut Outputs)
 {
     let users = outputs.quantity.len();
     let quantity = &part[..users];
-    outputs.quantity.copy_from_slice(quantity);
+    positions::copy_all(quantity, outputs.quantity);
     money_all(
         terms.excess_price,
         terms.shortfall_price,

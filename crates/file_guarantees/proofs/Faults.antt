@@ -7,7 +7,6 @@ use native.Mathlib.Omega.{arith}
 use lib.ListN.{length}
 use Rattle.allocation_row.specs.Causes.{number}
 use Rattle.allocation_row.specs.declared.Row.{Row}
-use Rattle.allocation_row.specs.declared.Zone.{Zone}
 use Rattle.allocation_row.specs.declared.FileCause.{FileCause}
 use Rattle.allocation_row.specs.declared.FileCause.TheVariants.{Lists, Header, Form, Field, Turn, NoLine}
 use Rattle.allocation_lines.specs.Turns.{refused, in_turn, body_of}
@@ -17,12 +16,12 @@ use Rattle.file_guarantees.proofs.Obeyed.{Turned, first, no_row, no_line, turn_f
 -- ---- the first fault
 
 -- the line in its turn
-at_fault : (h : ℕ) (z : Zone) (k : ℕ) (n : FileCause) (l : List ℕ) (after : List (List ℕ)) → Fault h z k l n → in_turn h z (l ∷ after) k ≡ refused n
+at_fault : (h z k : ℕ) (n : FileCause) (l : List ℕ) (after : List (List ℕ)) → Fault h z k l n → in_turn h z (l ∷ after) k ≡ refused n
 at_fault h z k n l after (by_itself e) = rw e
 at_fault h z k n l after (in_its_turn r e f g) = rw (e, f)
 
 -- the lines before it
-before_fault : (h : ℕ) (z : Zone) (k : ℕ) (n : FileCause) (before ls : List (List ℕ)) (rows : List Row) → Turned h z before k rows
+before_fault : (h z k : ℕ) (n : FileCause) (before ls : List (List ℕ)) (rows : List Row) → Turned h z before k rows
     → in_turn h z ls (k + length rows) ≡ refused n → in_turn h z (before ++ ls) k ≡ refused n
 before_fault h z k n [] ls [] t e = rw add-zero at e
 before_fault h z k n [] ls (r ∷ rows) t e = absurd (no_line h z k r rows t)
@@ -33,7 +32,7 @@ before_fault h z k n (b ∷ before) ls (r ∷ rows) t e =
     turn_first h z b (before ++ ls) k r f.is f.follows ∙ rw (before_fault h z (k + 1) n before ls rows f.rest (rw q at e))
 
 -- the first line gives the hour and the zone
-pub body_fault : (h : ℕ) (z : Zone) (n : FileCause) (before : List (List ℕ)) (l : List ℕ) (after : List (List ℕ)) (rows : List Row)
+pub body_fault : (h z : ℕ) (n : FileCause) (before : List (List ℕ)) (l : List ℕ) (after : List (List ℕ)) (rows : List Row)
     → Turned h z before 0 rows → Fault h z (length rows) l n
     → body_of (before ++ l ∷ after) ≡ refused n
 body_fault h z n [] l after [] t (by_itself e) = rw e

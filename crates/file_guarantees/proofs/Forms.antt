@@ -131,6 +131,6 @@ zone_no_point (x ∷ y ∷ ys) z e = let q : ◌≡◌ {A = ℕ} 0 1 = cc in abs
 pub no_points : (l : List ℕ) (r : Row) → MadeOf l r → NoPoints l
 no_points l r m = record {
   hour = number_no_point (field_at 0 l) r.hour m.hour;
-  zone = zone_no_point (field_at 1 l) r.zone m.zone;
+  zone = zone_no_point (field_at 1 l) m.said m.says;
   place = number_no_point (field_at 2 l) r.place m.place;
 }

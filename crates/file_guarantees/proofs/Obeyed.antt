@@ -13,7 +13,6 @@ use Rattle.csv_lines.specs.Lines.{begins}
 use Rattle.csv_lines.proofs.Begins.{begins-take, take_begins}
 use Rattle.allocation_row.specs.Rows.{row_of, follows}
 use Rattle.allocation_row.specs.declared.Row.{Row}
-use Rattle.allocation_row.specs.declared.Zone.{Zone}
 use Rattle.allocation_row.specs.declared.FileCause.{FileCause}
 use Rattle.allocation_row.specs.declared.FileCause.TheVariants.{Header, Turn}
 use Rattle.allocation_row.proofs.Follows.{Follows, follows_means, means_follows}
@@ -22,7 +21,7 @@ use Rattle.allocation_file.specs.File.{header, lines_of, file_of}
 use Rattle.file_guarantees.specs.Guarantees.{Standing, Obeys}
 
 -- ---- lines that stand in their turn, from place k on
-pub record Turned (h : ℕ) (z : Zone) (ls : List (List ℕ)) (k : ℕ) (rows : List Row) : Type 0 where
+pub record Turned (h z : ℕ) (ls : List (List ℕ)) (k : ℕ) (rows : List Row) : Type 0 where
   pub each : map row_of ls ≡ map Ok rows
   pub hours : map (λ r. r.hour) rows ≡ replicate (length rows) h
   pub zones : map (λ r. r.zone) rows ≡ replicate (length rows) z
@@ -37,7 +36,7 @@ shifted k n = tabulate_ext (λ i. k + suc i) (λ i. k + 1 + i) n (λ i h. omega 
 from_zero : (n : ℕ) → tabulate (λ i. 0 + i) n ≡ tabulate (λ i. i) n
 from_zero n = tabulate_ext (λ i. 0 + i) (λ i. i) n (λ i h. omega arith)
 
-module _ (ls : List (List ℕ)) (h : ℕ) (z : Zone) (rows : List Row) where
+module _ (ls : List (List ℕ)) (h z : ℕ) (rows : List Row) where
   -- what the guarantee names
   turned_standing : Turned h z ls 0 rows → Standing ls h z rows
   turned_standing t = record { each = t.each; hours = t.hours; zones = t.zones; places = t.places ∙ from_zero (length rows); few = t.few }
@@ -47,12 +46,12 @@ module _ (ls : List (List ℕ)) (h : ℕ) (z : Zone) (rows : List Row) where
   standing_turned t = record { each = t.each; hours = t.hours; zones = t.zones; places = t.places ∙ sym (from_zero (length rows)); few = t.few }
 
 -- the first line, and those after it
-pub record First (h : ℕ) (z : Zone) (l : List ℕ) (ls : List (List ℕ)) (k : ℕ) (r : Row) (rows : List Row) : Type 0 where
+pub record First (h z : ℕ) (l : List ℕ) (ls : List (List ℕ)) (k : ℕ) (r : Row) (rows : List Row) : Type 0 where
   pub is : row_of l ≡ Ok r
   pub follows : Follows h z k r
   pub rest : Turned h z ls (k + 1) rows
 
-module _ (h : ℕ) (z : Zone) (l : List ℕ) (ls : List (List ℕ)) (k : ℕ) (r : Row) (rows : List Row) where
+module _ (h z : ℕ) (l : List ℕ) (ls : List (List ℕ)) (k : ℕ) (r : Row) (rows : List Row) where
   -- the first line put before the others
   with_first : First h z l ls k r rows → Turned h z (l ∷ ls) k (r ∷ rows)
   unfolding tabulate
@@ -86,7 +85,7 @@ module _ (h : ℕ) (z : Zone) (l : List ℕ) (ls : List (List ℕ)) (k : ℕ) (r
       }
 
 -- a line without a row, and a row without a line
-module _ (h : ℕ) (z : Zone) (k : ℕ) where
+module _ (h z : ℕ) (k : ℕ) where
   -- each line has its row
   pub no_row : (l : List ℕ) (ls : List (List ℕ)) → Turned h z (l ∷ ls) k [] → ⊥
   no_row l ls t = let q : ◌≡◌ {A = ℕ} 0 1 = cc t.each in omega arith
@@ -98,17 +97,17 @@ module _ (h : ℕ) (z : Zone) (k : ℕ) where
 -- ---- lines in turn that are read
 
 -- what holds of a file if it is read
-abbrev pub IfRead : (ℕ → Zone → List Row → Type 0) → File → Type 0
+abbrev pub IfRead : (ℕ → ℕ → List Row → Type 0) → File → Type 0
 IfRead P (refused c) = Unit
 IfRead P (read h z rows) = P h z rows
 
 -- the hour and the zone read are those of the lines
-record Turns (h : ℕ) (z : Zone) (ls : List (List ℕ)) (k : ℕ) (h' : ℕ) (z' : Zone) (rows : List Row) : Type 0 where
+record Turns (h z : ℕ) (ls : List (List ℕ)) (k : ℕ) (h' z' : ℕ) (rows : List Row) : Type 0 where
   pub hour : h' ≡ h
   pub zone : z' ≡ z
   pub are : Turned h z ls k rows
 
-module _ (h : ℕ) (z : Zone) (l : List ℕ) (ls : List (List ℕ)) (k : ℕ) (r : Row) (e : row_of l ≡ Ok r) where
+module _ (h z : ℕ) (l : List ℕ) (ls : List (List ℕ)) (k : ℕ) (r : Row) (e : row_of l ≡ Ok r) where
   -- one row more is read
   with_row_lem : (f : File) → Follows h z k r → IfRead (Turns h z ls (k + 1)) f → IfRead (Turns h z (l ∷ ls) k) (with_row r f)
   with_row_lem (refused c) w t = tt
@@ -123,7 +122,7 @@ module _ (h : ℕ) (z : Zone) (l : List ℕ) (ls : List (List ℕ)) (k : ℕ) (r
   if_follows false f t = tt
 
 -- lines in turn that are read stand in their turn
-turns : (h : ℕ) (z : Zone) (ls : List (List ℕ)) (k : ℕ) → IfRead (Turns h z ls k) (in_turn h z ls k)
+turns : (h z : ℕ) (ls : List (List ℕ)) (k : ℕ) → IfRead (Turns h z ls k) (in_turn h z ls k)
 unfolding tabulate
 turns h z [] k = record { hour = refl; zone = refl; are = record { each = refl; hours = refl; zones = refl; places = refl; few = omega arith } }
 turns h z (l ∷ ls) k = go (row_of l) refl (turns h z ls (k + 1))
@@ -134,12 +133,12 @@ turns h z (l ∷ ls) k = go (row_of l) refl (turns h z ls (k + 1))
     go (Ok r) e t = if_follows h z l ls k r e (follows h z k r) refl t
 
 -- one line that stands in its turn
-pub turn_first : (h : ℕ) (z : Zone) (l : List ℕ) (ls : List (List ℕ)) (k : ℕ) (r : Row) → row_of l ≡ Ok r → Follows h z k r
+pub turn_first : (h z : ℕ) (l : List ℕ) (ls : List (List ℕ)) (k : ℕ) (r : Row) → row_of l ≡ Ok r → Follows h z k r
     → in_turn h z (l ∷ ls) k ≡ with_row r (in_turn h z ls (k + 1))
 turn_first h z l ls k r e w = rw (e, means_follows h z k r w)
 
 -- the converse of `turns`
-in_turn_lem : (h : ℕ) (z : Zone) (ls : List (List ℕ)) (rows : List Row) (k : ℕ) → Turned h z ls k rows → in_turn h z ls k ≡ read h z rows
+in_turn_lem : (h z : ℕ) (ls : List (List ℕ)) (rows : List Row) (k : ℕ) → Turned h z ls k rows → in_turn h z ls k ≡ read h z rows
 in_turn_lem h z [] [] k t = refl
 in_turn_lem h z [] (r ∷ rows) k t = absurd (no_line h z k r rows t)
 in_turn_lem h z (l ∷ ls) [] k t = absurd (no_row h z k l ls t)
@@ -148,15 +147,15 @@ in_turn_lem h z (l ∷ ls) (r ∷ rows) k t =
     turn_first h z l ls k r f.is f.follows ∙ rw (in_turn_lem h z ls rows (k + 1) f.rest)
 
 -- ---- the lines after the header: the first gives the hour and the zone
-pub body_turns : (h : ℕ) (z : Zone) (l : List ℕ) (ls : List (List ℕ)) (r : Row) → row_of l ≡ Ok r → r.hour ≡ h → r.zone ≡ z
+pub body_turns : (h z : ℕ) (l : List ℕ) (ls : List (List ℕ)) (r : Row) → row_of l ≡ Ok r → r.hour ≡ h → r.zone ≡ z
     → body_of (l ∷ ls) ≡ in_turn h z (l ∷ ls) 0
 body_turns h z l ls r e p q = ap (λ (w : Result Row FileCause). under_first w (l ∷ ls)) e ∙ under r.hour r.zone p q
   where
-    under : (x : ℕ) (y : Zone) → x ≡ h → y ≡ z → in_turn x y (l ∷ ls) 0 ≡ in_turn h z (l ∷ ls) 0
-    under x y p q = ap₂ (λ (x : ℕ) (y : Zone). in_turn x y (l ∷ ls) 0) p q
+    under : (x y : ℕ) → x ≡ h → y ≡ z → in_turn x y (l ∷ ls) 0 ≡ in_turn h z (l ∷ ls) 0
+    under x y p q = ap₂ (λ (x y : ℕ). in_turn x y (l ∷ ls) 0) p q
 
 -- at least one line, and all stand in their turn
-record Body (ls : List (List ℕ)) (h : ℕ) (z : Zone) (rows : List Row) : Type 0 where
+record Body (ls : List (List ℕ)) (h z : ℕ) (rows : List Row) : Type 0 where
   pub some : 1 ≤ length rows
   pub are : Turned h z ls 0 rows
 
@@ -165,7 +164,7 @@ body : (ls : List (List ℕ)) → IfRead (Body ls) (body_of ls)
 body [] = tt
 body (l ∷ ls) = go (row_of l) refl
   where
-    some : (h : ℕ) (z : Zone) (f : File) → IfRead (Turns h z (l ∷ ls) 0) f → IfRead (Body (l ∷ ls)) f
+    some : (h z : ℕ) (f : File) → IfRead (Turns h z (l ∷ ls) 0) f → IfRead (Body (l ∷ ls)) f
     some h z (refused c) t = tt
     some h z (read h' z' []) t = absurd (no_row h z 0 l ls t.are)
     some h z (read h' z' (r ∷ rows)) t = record { some = omega arith; are = rw (t.hour, t.zone) t.are }
@@ -175,7 +174,7 @@ body (l ∷ ls) = go (row_of l) refl
     go (Ok r) e = some r.hour r.zone (in_turn r.hour r.zone (l ∷ ls) 0) (turns r.hour r.zone (l ∷ ls) 0)
 
 -- and the converse
-in_body : (ls : List (List ℕ)) (h : ℕ) (z : Zone) (rows : List Row) → Body ls h z rows → body_of ls ≡ read h z rows
+in_body : (ls : List (List ℕ)) (h z : ℕ) (rows : List Row) → Body ls h z rows → body_of ls ≡ read h z rows
 in_body ls h z [] b = absurd (omega (arith, b.some))
 in_body [] h z (r ∷ rows) b = absurd (no_line h z 0 r rows b.are)
 in_body (l ∷ ls) h z (r ∷ rows) b =
@@ -206,6 +205,6 @@ obeyed s = go (begins s header) refl
     go false e = tt
 
 -- and the converse
-pub obeys_read : (s : List ℕ) (h : ℕ) (z : Zone) (rows : List Row) → Obeys s h z rows → file_of s ≡ read h z rows
+pub obeys_read : (s : List ℕ) (h z : ℕ) (rows : List Row) → Obeys s h z rows → file_of s ≡ read h z rows
 obeys_read s h z rows o =
     opened s o.opens ∙ in_body (lines_of s) h z rows (record { some = o.some; are = standing_turned (lines_of s) h z rows o.standing })

@@ -2,20 +2,22 @@
 use mathlib.Core.Path.{◌≡◌, refl}
 use mathlib.Core.Bool.{Bool, true, false, cond}
 use mathlib.Core.List.{List, [], ◌∷◌}
-use Prim.Native.Nat.{ℕ, zero, suc, ◌^◌, ◌<◌}
+use Prim.Native.Nat.{ℕ, zero, suc, ◌^◌, ◌<◌, ◌≤◌}
 use native.Mathlib.Omega.{arith}
 use lib.Dec.{eqb, leb}
 use lib.IntN.{ℤ, nat_abs}
 use lib.ListN.{length}
 use borrow.Author.Tests.{leb-true, eqb-true}
-use Rattle.std.specs.Prelude.{Option, Some, None, IfSome, Err, IfOk, ok_or}
+use Rattle.std.specs.Prelude.{Option, Some, None, IfSome, Err, IfOk, IfErr, ok_or}
 use Rattle.text.specs.Bytes.{minus_sign}
 use Rattle.text.specs.Numbers.{digits_from, unsigned_of, has_point, before_point, after_point, whole_of, decimals_of, mwh_of, size_of, positive, negative, amount_of}
 use Rattle.text.proofs.Numbers.{digits-below, unsigned_below}
 use Rattle.csv_lines.specs.Lines.{field_at}
-use Rattle.allocation_row.specs.Rows.{zone_of, is_form, as_row, fields_of, row_of}
+use Rattle.allocation_row.specs.Causes.{number}
+use Rattle.allocation_row.specs.Rows.{zone_number, zone_of, is_form, as_row, fields_of, row_of}
 use Rattle.allocation_row.specs.declared.Row.{Row}
 use Rattle.allocation_row.specs.declared.Zone.{Zone}
+use Rattle.allocation_row.specs.declared.FileCause.{FileCause}
 use Rattle.allocation_row.specs.declared.FileCause.TheVariants.{Form, Field}
 use Rattle.allocation_row.proofs.Zones.{zone_most}
 use Rattle.file_guarantees.specs.Guarantees.{NineDigits}
@@ -72,10 +74,12 @@ amount_below (x ∷ xs) = signed (eqb x minus_sign)
     signed true = minus (size_of xs) (size_below xs)
     signed false = plus (size_of (x ∷ xs)) (size_below (x ∷ xs))
 
--- ---- what the seven fields say together: nothing, or a row of their numbers
+-- ---- what the seven fields say together: nothing, or a row of their numbers, and of the number of the zone said
 pub record Made (h : Option ℕ) (z : Option Zone) (g : Option ℕ) (a b c d : Option ℤ) (r : Row) : Type 0 where
   pub hour : h ≡ Some r.hour
-  pub zone : z ≡ Some r.zone
+  pub said : Zone
+  pub says : z ≡ Some said
+  pub zone : zone_number said ≡ r.zone
   pub place : g ≡ Some r.place
   pub entry : a ≡ Some r.entry
   pub exit : b ≡ Some r.exit
@@ -93,7 +97,7 @@ made (Some h) (Some z) (Some g) (Some a) None c d = tt
 made (Some h) (Some z) (Some g) (Some a) (Some b) None d = tt
 made (Some h) (Some z) (Some g) (Some a) (Some b) (Some c) None = tt
 made (Some h) (Some z) (Some g) (Some a) (Some b) (Some c) (Some d) =
-    record { hour = refl; zone = refl; place = refl; entry = refl; exit = refl; title = refl; pooling = refl }
+    record { hour = refl; said = z; says = refl; zone = refl; place = refl; entry = refl; exit = refl; title = refl; pooling = refl }
 
 -- ---- the line
 
@@ -118,11 +122,23 @@ made_of l = go (is_form l)
         (amount_of (field_at 3 l)) (amount_of (field_at 4 l)) (amount_of (field_at 5 l)) (amount_of (field_at 6 l)))
     go false = tt
 
+-- a line that has none is turned away by 14 or by 15
+abbrev pub FormOrField : FileCause → Type 0
+FormOrField c = (14 ≤ number c) × (number c ≤ 15)
+
+pub refused_alone : (l : List ℕ) → IfErr (row_of l) FormOrField
+refused_alone l = go (is_form l) (fields_of l)
+  where
+    go : (b : Bool) (w : Option Row) → IfErr (cond b (ok_or w Field) (Err Form)) FormOrField
+    go true None = (omega arith, omega arith)
+    go true (Some r) = tt
+    go false w = (omega arith, omega arith)
+
 -- and a row's numbers are small
 pub nine : (l : List ℕ) (r : Row) → MadeOf l r → NineDigits r
 nine l r m = record {
   hour = rw m.hour at (number_below (field_at 0 l));
-  zone = zone_most r.zone;
+  zone = rw m.zone at (zone_most m.said);
   place = rw m.place at (number_below (field_at 2 l));
   entry = rw m.entry at (amount_below (field_at 3 l));
   exit = rw m.exit at (amount_below (field_at 4 l));

@@ -5,8 +5,6 @@ use Rattle.integers.specs.Lists.{tabulate}
 use Rattle.text.specs.Bytes.{bytes}
 use Rattle.text.specs.Decimals.{digits}
 use Rattle.allocation_row.specs.declared.Row.{Row}
-use Rattle.allocation_row.specs.declared.Zone.{Zone}
-use Rattle.allocation_row.specs.declared.Zone.TheVariants.{H, L}
 use Rattle.allocation_row.specs.declared.FileCause.TheVariants.{Lists, Header, Form, Field, Turn, NoLine}
 use Rattle.allocation_lines.specs.Turns.{File, refused, read}
 use Rattle.allocation_file.specs.File.{header, outcome, answer_of, list_of}
@@ -31,7 +29,7 @@ abbrev pub after : String → File → Example
 after t f = record { file = header ++ bytes t; places = 128; says = f }
 
 -- a row by its seven values, in the file's order
-abbrev pub row : ℕ → Zone → ℕ → ℤ → ℤ → ℤ → ℤ → Row
+abbrev pub row : ℕ → ℕ → ℕ → ℤ → ℤ → ℤ → ℤ → Row
 row h z g a b c d = record { hour = h; zone = z; place = g; entry = a; exit = b; title = c; pooling = d }
 
 -- ---- files of many lines: n lines from place k on, each of hour 24, zone L and no amounts
@@ -44,7 +42,7 @@ abbrev pub full : String → File → Example
 full t f = record { file = header ++ lines_from 0 128 ++ bytes t; places = 128; says = f }
 
 full_rows : List Row
-full_rows = tabulate (λ k. row 24 L k (pos 0) (pos 0) (pos 0) (pos 0)) 128
+full_rows = tabulate (λ k. row 24 1 k (pos 0) (pos 0) (pos 0) (pos 0)) 128
 
 -- document 01's case A
 abbrev pub case_a_text : String
@@ -56,15 +54,15 @@ unfolding full_rows
 examples =
     -- files that are read: case A; a last line that lacks CR LF; the largest and the least numbers; 128 lines
     whole case_a_text
-    (read 1 H
-    (row 1 H 0 (pos 30000000) (negsuc 9999999) (pos 0) (pos 0)
-    ∷ row 1 H 1 (pos 15000000) (negsuc 4999999) (pos 0) (pos 0)
-    ∷ row 1 H 2 (pos 2000000) (negsuc 4999999) (pos 0) (pos 0) ∷ []))
+    (read 1 0
+    (row 1 0 0 (pos 30000000) (negsuc 9999999) (pos 0) (pos 0)
+    ∷ row 1 0 1 (pos 15000000) (negsuc 4999999) (pos 0) (pos 0)
+    ∷ row 1 0 2 (pos 2000000) (negsuc 4999999) (pos 0) (pos 0) ∷ []))
     ∷ after "24,L,0,1,-1,20,-20\r\n24,L,1,0,0,0,0"
-    (read 24 L (row 24 L 0 (pos 1) (negsuc 0) (pos 20) (negsuc 19) ∷ row 24 L 1 (pos 0) (pos 0) (pos 0) (pos 0) ∷ []))
-    ∷ after "999999999,H,0,999999999,-999999999,0,0" (read 999999999 H (row 999999999 H 0 (pos 999999999) (negsuc 999999998) (pos 0) (pos 0) ∷ []))
-    ∷ after "0,H,0,-1,1,0,0\r\n" (read 0 H (row 0 H 0 (negsuc 0) (pos 1) (pos 0) (pos 0) ∷ []))
-    ∷ full "" (read 24 L full_rows)
+    (read 24 1 (row 24 1 0 (pos 1) (negsuc 0) (pos 20) (negsuc 19) ∷ row 24 1 1 (pos 0) (pos 0) (pos 0) (pos 0) ∷ []))
+    ∷ after "999999999,H,0,999999999,-999999999,0,0" (read 999999999 0 (row 999999999 0 0 (pos 999999999) (negsuc 999999998) (pos 0) (pos 0) ∷ []))
+    ∷ after "0,H,0,-1,1,0,0\r\n" (read 0 0 (row 0 0 0 (negsuc 0) (pos 1) (pos 0) (pos 0) ∷ []))
+    ∷ full "" (read 24 1 full_rows)
     -- 12, before all other causes: lists of no, 127 and 129 places
     ∷ record { file = bytes "no header"; places = 0; says = refused Lists }
     ∷ record { file = header ++ bytes "1,H,0,0,0,0,0\r\n"; places = 127; says = refused Lists }
@@ -123,10 +121,10 @@ examples =
     ∷ after "1,H,0,1\0,0,0,0\r\n" (refused Field)
     ∷ record { file = header ++ bytes "1,H,0,0,0,0," ++ (200 ∷ []); places = 128; says = refused Field }
     -- amounts in MWh: `12.345`, `0.000`, `-0.005` and 1 MWh; the largest and the least; a file that mixes both forms, and a line
-    ∷ after "1,H,0,12.345,0.000,-0.005,1.000\r\n" (read 1 H (row 1 H 0 (pos 12345) (pos 0) (negsuc 4) (pos 1000) ∷ []))
-    ∷ after "1,H,0,999999.999,-999999.999,0.999,-1.000" (read 1 H (row 1 H 0 (pos 999999999) (negsuc 999999998) (pos 999) (negsuc 999) ∷ []))
+    ∷ after "1,H,0,12.345,0.000,-0.005,1.000\r\n" (read 1 0 (row 1 0 0 (pos 12345) (pos 0) (negsuc 4) (pos 1000) ∷ []))
+    ∷ after "1,H,0,999999.999,-999999.999,0.999,-1.000" (read 1 0 (row 1 0 0 (pos 999999999) (negsuc 999999998) (pos 999) (negsuc 999) ∷ []))
     ∷ after "2,L,0,12345,-12345,0,0\r\n2,L,1,12.345,-12345,0,0.000\r\n"
-    (read 2 L (row 2 L 0 (pos 12345) (negsuc 12344) (pos 0) (pos 0) ∷ row 2 L 1 (pos 12345) (negsuc 12344) (pos 0) (pos 0) ∷ []))
+    (read 2 1 (row 2 1 0 (pos 12345) (negsuc 12344) (pos 0) (pos 0) ∷ row 2 1 1 (pos 12345) (negsuc 12344) (pos 0) (pos 0) ∷ []))
     -- 15: `-0.000`; no digit before the point; none, one, two and four after it
     ∷ after "1,H,0,-0.000,0,0,0\r\n" (refused Field)
     ∷ after "1,H,0,.005,0,0,0\r\n" (refused Field)

@@ -16,7 +16,7 @@ use Rattle.allocation_file.specs.File.{header, lines_of, file_of, all128, outcom
 use Rattle.allocation_file.specs.declared.FileRead.{FileRead}
 
 -- lines that stand in their turn, the first at place 0, in a file of the hour h and the zone z: a row for each
-pub record Standing (ls : List (List ℕ)) (h : ℕ) (z : Zone) (rows : List Row) : Type 0 where
+pub record Standing (ls : List (List ℕ)) (h z : ℕ) (rows : List Row) : Type 0 where
   -- each line by itself has the right form and well-formed fields, and these are its row
   pub each : map row_of ls ≡ map Ok rows
   -- "All lines have the first line's h and z"
@@ -27,7 +27,7 @@ pub record Standing (ls : List (List ℕ)) (h : ℕ) (z : Zone) (rows : List Row
   pub few : length rows ≤ 128
 
 -- the file s obeys the rules, with the hour h, the zone z and a row for each line
-pub record Obeys (s : List ℕ) (h : ℕ) (z : Zone) (rows : List Row) : Type 0 where
+pub record Obeys (s : List ℕ) (h z : ℕ) (rows : List Row) : Type 0 where
   -- "The file opens with the 25 bytes"
   pub opens : take (length header) s ≡ header
   -- "At least one further line follows"
@@ -38,11 +38,11 @@ pub record Obeys (s : List ℕ) (h : ℕ) (z : Zone) (rows : List Row) : Type 0 
 abbrev pub ReadIfObeyed : Type 0
 ReadIfObeyed =
     (s : List ℕ) (a b c d : List ℤ) → all128 (length a) (length b) (length c) (length d) ≡ true
-    → (h : ℕ) (z : Zone) (rows : List Row) → (outcome s a b c d ≡ read h z rows) ↔ Obeys s h z rows
+    → (h z : ℕ) (rows : List Row) → (outcome s a b c d ≡ read h z rows) ↔ Obeys s h z rows
 
 -- a line l that is refused at place k of a file of the hour h and the zone z, with its cause n: by itself (14 or 15), or in its turn (16).
 -- The file's first line gives the hour and the zone
-pub data Fault (h : ℕ) (z : Zone) (k : ℕ) (l : List ℕ) : FileCause → Type 0 where
+pub data Fault (h z k : ℕ) (l : List ℕ) : FileCause → Type 0 where
   by_itself : {n : FileCause} → row_of l ≡ Err n → Fault h z k l n
   in_its_turn : (r : Row) → row_of l ≡ Ok r → follows h z k r ≡ false → (k ≡ 0 → (r.hour ≡ h) × (r.zone ≡ z)) → Fault h z k l Turn
 
@@ -50,20 +50,20 @@ pub data Fault (h : ℕ) (z : Zone) (k : ℕ) (l : List ℕ) : FileCause → Typ
 -- stands after it
 abbrev pub FirstFaultDecides : Type 0
 FirstFaultDecides =
-    (s : List ℕ) (h : ℕ) (z : Zone) (n : FileCause) (before : List (List ℕ)) (l : List ℕ) (after : List (List ℕ)) (rows : List Row)
+    (s : List ℕ) (h z : ℕ) (n : FileCause) (before : List (List ℕ)) (l : List ℕ) (after : List (List ℕ)) (rows : List Row)
     → take (length header) s ≡ header
     → lines_of s ≡ before ++ l ∷ after
     → Standing before h z rows
     → Fault h z (length rows) l n
     → file_of s ≡ refused n
 
--- what an accepted call says of its file: it obeys the rules, the hour and the zone answered are those of every line, and the number of
--- lines answered is that of the file's lines, 1 to 128
+-- what an accepted call says of its file: it obeys the rules, the hour and the zone answered are those of every line, the zone is H or L,
+-- and the number of lines answered is that of the file's lines, 1 to 128
 pub record Accepted (s : List ℕ) (f : FileRead) : Type 0 where
   pub h : ℕ
   pub z : Zone
   pub rows : List Row
-  pub obeys : Obeys s h z rows
+  pub obeys : Obeys s h (zone_number z) rows
   pub hour : f.hour ≡ pos h
   pub zone : f.zone ≡ pos (zone_number z)
   pub lines : f.lines ≡ pos (length (lines_of s))
@@ -80,7 +80,7 @@ CauseGiven = (s : List ℕ) (a b c d : List ℤ) (n : FileCause) → outcome s a
 -- the numbers of a line by itself have at most nine digits, and its zone is 0 or 1
 pub record NineDigits (r : Row) : Type 0 where
   pub hour : r.hour < 10 ^ 9
-  pub zone : zone_number r.zone ≤ 1
+  pub zone : r.zone ≤ 1
   pub place : r.place < 10 ^ 9
   pub entry : nat_abs r.entry < 10 ^ 9
   pub exit : nat_abs r.exit < 10 ^ 9

@@ -13,7 +13,6 @@ use Rattle.allocation_file.specs.declared.FileRead.{FileRead}
 use Rattle.allocation_row.specs.declared.Row.{Row}
 use Rattle.allocation_row.specs.declared.FileCause.{FileCause}
 use Rattle.allocation_row.specs.Causes.{number}
-use Rattle.allocation_row.specs.Rows.{zone_number}
 use Rattle.rules.proofs.Refusing.{not_refused}
 use Rattle.allocation_lines.specs.Turns.{File, refused, read}
 use Rattle.allocation_file.specs.File.{outcome, answer_of, list_of}
@@ -40,7 +39,7 @@ pub file_read : {v v' : Writer} (w : File) (a b c d : List ℤ) {f : FileRead} {
 unfolding of_file natural
 file_read (refused k) a b c d e l t ea eb ec ed = absurd (not_refused (sym e))
 file_read (read h z rows) a b c d {f} {n} e l t ea eb ec ed =
-    let q : ◌≡◌ {A = FileRead} f (record { hour = pos h; zone = pos (zone_number z); lines = pos (length rows) }) = cc in
+    let q : ◌≡◌ {A = FileRead} f (record { hour = pos h; zone = pos z; lines = pos (length rows) }) = cc in
     let m : n ≡ length rows = l ∙ ap (λ (g : FileRead). natural g.lines) q in
     rw (
       q,

@@ -29,14 +29,20 @@ use Rattle.record_c.specs.Records.{day_for_c}
 
 -- ---- opening: a refusal gives the record of no users and length 0
 
+abbrev pub refused_open : ℕ → OpenC
+refused_open k = record { cause = k; day = day_for_c (new_day (pos 0) (pos 0)) }
+
 abbrev pub flat_open : Result Day Cause → OpenC
-flat_open (Err k) = record { cause = number k; day = day_for_c (new_day (pos 0) (pos 0)) }
+flat_open (Err k) = refused_open (number k)
 flat_open (Ok d) = record { cause = 0; day = day_for_c d }
 
 -- ---- default thresholds
 
+abbrev pub refused_thresholds : ℕ → ThresholdsC
+refused_thresholds k = record { cause = k; upper = pos 0; lower = pos 0 }
+
 abbrev pub flat_thresholds : Result Thresholds Cause → ThresholdsC
-flat_thresholds (Err k) = record { cause = number k; upper = pos 0; lower = pos 0 }
+flat_thresholds (Err k) = refused_thresholds (number k)
 flat_thresholds (Ok t) = record { cause = 0; upper = t.upper; lower = t.lower }
 
 -- ---- an hour: the side is 0 within the thresholds, 1 in an excess, 2 in a shortfall
@@ -78,12 +84,18 @@ flat_closing d (Ok r) = record { cause = 0; day = day_for_c r.day; sold = r.sold
 
 -- ---- the hour's file
 
+abbrev pub refused_file : ℕ → FileC
+refused_file k = record { cause = k; hour = pos 0; zone = pos 0; lines = pos 0 }
+
 abbrev pub flat_file : Result FileRead FileCause → FileC
-flat_file (Err k) = record { cause = file_number k; hour = pos 0; zone = pos 0; lines = pos 0 }
+flat_file (Err k) = refused_file (file_number k)
 flat_file (Ok f) = record { cause = 0; hour = f.hour; zone = f.zone; lines = f.lines }
 
 -- ---- the hour's file, written
 
+abbrev pub refused_written : ℕ → WrittenC
+refused_written k = record { cause = k; bytes = pos 0 }
+
 abbrev pub flat_written : Result ℤ WriteCause → WrittenC
-flat_written (Err k) = record { cause = write_number k; bytes = pos 0 }
+flat_written (Err k) = refused_written (write_number k)
 flat_written (Ok n) = record { cause = 0; bytes = n }

@@ -1,10 +1,11 @@
 // The answers for C: no enum crosses, so each becomes a struct with C's layout that holds its cause, 0 for none, beside its values; what a refusal does not
-// answer is 0.
+// answer is 0. A `refused` is told a cause's number, any there may be, and is what C sees of such a refusal.
 
 #![tactic(auto)]
 
 ghost use Rattle.std.specs.Prelude.{◌≡◌};
 ghost use Rattle.flat.specs.Flat.{flat_open, flat_thresholds, settled_hour, flat_done, flat_hour, flat_judged, flat_closing, flat_file, flat_written};
+ghost use Rattle.flat.specs.Flat.{refused_open, refused_thresholds, refused_hour, refused_closing, refused_file, refused_written};
 
 use allocation_file::FileRead;
 use allocation_row::FileCause;
@@ -21,16 +22,24 @@ pub struct OpenC {
     pub day: DayC,
 }
 
+impl OpenC {
+    #[tactic(auto, unfolding(rules::specs::Days::new_day, record_c::specs::Records::day_for_c, record_c::specs::Records::zone_for_c))]
+    pub fn refused(cause: u64) -> OpenC
+        ensures { result ≡ refused_open cause }
+    {
+        OpenC {
+            cause,
+            ..OpenC::default()
+        }
+    }
+}
+
 impl From<Result<Day, Cause>> for OpenC {
     ghost from_gives = { λ answer flat. flat ≡ flat_open answer };
 
-    #[tactic(auto, unfolding(rules::specs::Days::new_day, record_c::specs::Records::day_for_c, record_c::specs::Records::zone_for_c))]
     fn from(answer: Result<Day, Cause>) -> OpenC {
         match answer {
-            Err(cause) => OpenC {
-                cause: cause.number(),
-                ..OpenC::default()
-            },
+            Err(cause) => OpenC::refused(cause.number()),
             Ok(opened) => {
                 let day = DayC::from(opened);
                 OpenC { cause: 0, day }
@@ -49,15 +58,23 @@ pub struct ThresholdsC {
     pub lower: i64,
 }
 
+impl ThresholdsC {
+    pub fn refused(cause: u64) -> ThresholdsC
+        ensures { result ≡ refused_thresholds cause }
+    {
+        ThresholdsC {
+            cause,
+            ..ThresholdsC::default()
+        }
+    }
+}
+
 impl From<Result<Thresholds, Cause>> for ThresholdsC {
     ghost from_gives = { λ answer flat. flat ≡ flat_thresholds answer };
 
     fn from(answer: Result<Thresholds, Cause>) -> ThresholdsC {
         match answer {
-            Err(cause) => ThresholdsC {
-                cause: cause.number(),
-                ..ThresholdsC::default()
-            },
+            Err(cause) => ThresholdsC::refused(cause.number()),
             Ok(thresholds) => ThresholdsC {
                 cause: 0,
                 upper: thresholds.upper,
@@ -88,12 +105,18 @@ impl HourC {
         ensures { result ≡ flat_hour given answer }
     {
         match answer {
-            Err(refusal) => HourC {
-                cause: refusal.cause.number(),
-                day: given,
-                ..HourC::default()
-            },
+            Err(refusal) => HourC::refused(given, refusal.cause.number()),
             Ok(done) => HourC::done(done.day.into(), done.outcome),
+        }
+    }
+
+    pub fn refused(given: DayC, cause: u64) -> HourC
+        ensures { result ≡ refused_hour given cause }
+    {
+        HourC {
+            cause,
+            day: given,
+            ..HourC::default()
         }
     }
 
@@ -169,17 +192,23 @@ impl ClosingC {
         ensures { result ≡ flat_closing given answer }
     {
         match answer {
-            Err(refusal) => ClosingC {
-                cause: refusal.cause.number(),
-                day: given,
-                ..ClosingC::default()
-            },
+            Err(refusal) => ClosingC::refused(given, refusal.cause.number()),
             Ok(done) => ClosingC {
                 cause: 0,
                 day: done.day.into(),
                 sold: done.sold,
                 bought: done.bought,
             },
+        }
+    }
+
+    pub fn refused(given: DayC, cause: u64) -> ClosingC
+        ensures { result ≡ refused_closing given cause }
+    {
+        ClosingC {
+            cause,
+            day: given,
+            ..ClosingC::default()
         }
     }
 }
@@ -195,15 +224,23 @@ pub struct FileC {
     pub lines: i64,
 }
 
+impl FileC {
+    pub fn refused(cause: u64) -> FileC
+        ensures { result ≡ refused_file cause }
+    {
+        FileC {
+            cause,
+            ..FileC::default()
+        }
+    }
+}
+
 impl From<Result<FileRead, FileCause>> for FileC {
     ghost from_gives = { λ answer flat. flat ≡ flat_file answer };
 
     fn from(answer: Result<FileRead, FileCause>) -> FileC {
         match answer {
-            Err(cause) => FileC {
-                cause: cause.number(),
-                ..FileC::default()
-            },
+            Err(cause) => FileC::refused(cause.number()),
             Ok(file) => FileC {
                 cause: 0,
                 hour: file.hour,
@@ -223,15 +260,20 @@ pub struct WrittenC {
     pub bytes: i64,
 }
 
+impl WrittenC {
+    pub fn refused(cause: u64) -> WrittenC
+        ensures { result ≡ refused_written cause }
+    {
+        WrittenC { cause, bytes: 0 }
+    }
+}
+
 impl From<Result<i64, WriteCause>> for WrittenC {
     ghost from_gives = { λ answer flat. flat ≡ flat_written answer };
 
     fn from(answer: Result<i64, WriteCause>) -> WrittenC {
         match answer {
-            Err(cause) => WrittenC {
-                cause: cause.number(),
-                bytes: 0,
-            },
+            Err(cause) => WrittenC::refused(cause.number()),
             Ok(bytes) => WrittenC { cause: 0, bytes },
         }
     }

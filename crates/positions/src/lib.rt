@@ -63,6 +63,17 @@ pub fn before_at(part: &[i64], amounts: &Amounts, user: usize) -> i64
     before_of_user(part[user], amounts, user)
 }
 
+// The positions of all users, copied. (By a loop: the library's `copy_from_slice` would have the archive for C ask for
+// `memmove`, and it asks for `memset` alone.)
+pub fn copy_all(positions: &[i64], places: &mut [i64])
+    requires { length places.old ≡ length positions.now }
+    ensures { places.new ≡ positions.now }
+{
+    for (user, place) in places.iter_mut().enumerate() {
+        *place = positions[user];
+    }
+}
+
 // The sum of the amounts or positions of all users.
 pub fn sum_of(amounts: &[i64]) -> i64
     requires { (length amounts.now ≤ users_most) × AtMost position_most amounts.now }

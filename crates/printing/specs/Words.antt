@@ -73,6 +73,9 @@ day_text d = users_text d.users d.length ++ bytes ", H " ++ zone_text d.h ++ byt
 unfoldable pub refused_text : ℕ → List ℕ
 refused_text n = bytes ": refused " ++ digits n
 
--- its number, and whether it has the record that was given
+-- by its number: that, and whether the record that came back is the one that was given
+unfoldable pub refusal_by : ℕ → Day → Day → List ℕ
+refusal_by n answered given = refused_text n ++ kept_text (bytes "record") (same_day answered given)
+
 unfoldable pub refusal_text : Refusal → Day → List ℕ
-refusal_text r given = refused_text (number r.cause) ++ kept_text (bytes "record") (same_day r.day given)
+refusal_text r given = refusal_by (number r.cause) r.day given

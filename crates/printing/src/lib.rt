@@ -22,6 +22,7 @@ ghost use Rattle.printing.specs.Words.{
   zone_text,
   day_text,
   refused_text,
+  refusal_by,
   refusal_text,
 };
 
@@ -232,13 +233,20 @@ impl<const N: usize> Text<N> {
         self.say_count(number);
     }
 
-    // A refusal with its number, and whether it has the record that was given.
-    #[tactic(auto, using(crate::proofs::Said::said_then, checking::proofs::Equality::day_is), unfolding(crate::specs::Words::refusal_text))]
+    // A refusal by its number, any there may be, and whether the record that came back is the one that was given.
+    #[tactic(auto, using(crate::proofs::Said::said_then, checking::proofs::Equality::day_is), unfolding(crate::specs::Words::refusal_by))]
+    pub fn say_refusal_by(&mut self, number: u64, answered: Day, given: Day)
+        ensures { self.new ≡ said N self.old (refusal_by number answered given) }
+    {
+        self.say_refused(number);
+        self.say_kept(b"record", answered == given);
+    }
+
+    #[tactic(auto, unfolding(crate::specs::Words::refusal_text))]
     pub fn say_refusal(&mut self, refusal: Refusal, given: Day)
         ensures { self.new ≡ said N self.old (refusal_text refusal given) }
     {
-        self.say_refused(refusal.cause.number());
-        self.say_kept(b"record", refusal.day == given);
+        self.say_refusal_by(refusal.cause.number(), refusal.day, given);
     }
 }
 

@@ -110,7 +110,7 @@ fn copy_first(part: &[i64], places: &mut [i64])
     ensures { places.new ≡ take (length places.old) part.now }
 {
     let users = places.len();
-    places.copy_from_slice(&part[..users]);
+    positions::copy_all(&part[..users], places);
 }
 
 // Those of a zone, in a branch for each part as above.

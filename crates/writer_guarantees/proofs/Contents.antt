@@ -12,9 +12,7 @@ use Rattle.integers.specs.Ranges.{natural}
 use Rattle.integers.proofs.Counts.{length-tabulate}
 use Rattle.integers.proofs.Passes.{every_at}
 use Rattle.allocation_row.specs.declared.Row.{Row}
-use Rattle.allocation_row.specs.declared.Zone.TheVariants.{H}
-use Rattle.allocation_row.proofs.Zones.{zone_most}
-use Rattle.allocation_writer.specs.Writer.{Content, zone_by, row_at, rows_of, nine_digits}
+use Rattle.allocation_writer.specs.Writer.{Content, row_at, rows_of, nine_digits}
 use Rattle.allocation_writer.specs.Steps.{Counted, Fitting}
 use Rattle.allocation_writer.proofs.Tests.{nine_means}
 use Rattle.writer_guarantees.proofs.Sizes.{Short}
@@ -34,7 +32,7 @@ rows_short w c f =
     all_tabulate Short _ n (λ i h. record {
       nine = record {
         hour = omega (arith, f.short, ap nat_abs f.hour);
-        zone = zone_most _;
+        zone = c.zones;
         place = omega (arith, c.few);
         entry = small n w.entry f.entry c.entry i h;
         exit = small n w.exit f.exit c.exit i h;
@@ -47,7 +45,7 @@ rows_short w c f =
 -- ---- the rows, column by column
 pub record Columns (w : Content) (rows : List Row) : Type 0 where
   pub hours : map (λ r. r.hour) rows ≡ replicate (natural w.users) (natural w.hour)
-  pub zones : map (λ r. r.zone) rows ≡ replicate (natural w.users) (zone_by w.zone)
+  pub zones : map (λ r. r.zone) rows ≡ replicate (natural w.users) (natural w.zone)
   pub places : map (λ r. r.place) rows ≡ tabulate (λ i. i) (natural w.users)
   pub entries : map (λ r. r.entry) rows ≡ w.entry
   pub exits : map (λ r. r.exit) rows ≡ w.exit
@@ -75,7 +73,7 @@ pub same_columns : (w : Content) (rs ts : List Row) → Columns w rs → Columns
 same_columns w rs ts p q = ext_get_or none rs ts long (λ i h. row i)
   where
     none : Row
-    none = record { hour = 0; zone = H; place = 0; entry = pos 0; exit = pos 0; title = pos 0; pooling = pos 0 }
+    none = record { hour = 0; zone = 0; place = 0; entry = pos 0; exit = pos 0; title = pos 0; pooling = pos 0 }
 
     long : length rs ≡ length ts
     long = sym (length-map rs _) ∙ ap length (p.places ∙ sym q.places) ∙ length-map ts _

@@ -16,25 +16,22 @@ use Rattle.integers.proofs.Sums.{at_most_cons}
 use Rattle.text.specs.Bytes.{carriage_return, line_feed, line_end}
 use Rattle.text.specs.Numbers.{has_point}
 use Rattle.csv_lines.specs.Lines.{lines}
-use Rattle.allocation_row.specs.Rows.{zone_number}
 use Rattle.allocation_row.specs.declared.Row.{Row}
-use Rattle.allocation_row.specs.declared.Zone.{Zone}
-use Rattle.allocation_row.proofs.Zones.{zone_most}
 use Rattle.allocation_file.specs.File.{header, lines_of}
-use Rattle.allocation_writer.specs.Writer.{Content, zone_by, rows_of, ended, file_text, text_of}
+use Rattle.allocation_writer.specs.Writer.{Content, rows_of, ended, file_text, text_of}
 use Rattle.allocation_writer.specs.Steps.{Counted, Fitting}
 use Rattle.allocation_writer.proofs.Tests.{counted_means}
 use Rattle.file_guarantees.specs.Guarantees.{NineDigits, Obeys}
 use Rattle.writer_guarantees.specs.Guarantees.{nine_digits_most, Fit}
 use Rattle.writer_guarantees.proofs.Lists.{All}
-use Rattle.writer_guarantees.proofs.Fitting.{zone_is, zone_again, fit_counted}
+use Rattle.writer_guarantees.proofs.Fitting.{zone_is, fit_counted}
 use Rattle.writer_guarantees.proofs.Points.{NoPoint, no_point_parts, lines_no_point}
 use Rattle.writer_guarantees.proofs.Lines.{ended-lines}
 use Rattle.writer_guarantees.proofs.Rows.{lines_back, rows_back, rows_text, rows_nine}
 use Rattle.writer_guarantees.proofs.Contents.{rows_short, columns, same_columns, rows-length}
 
 -- ---- the text of a content
-pub text_obeys : (w : Content) → Counted w → Fitting w → Obeys (text_of w) (natural w.hour) (zone_by w.zone) (rows_of w)
+pub text_obeys : (w : Content) → Counted w → Fitting w → Obeys (text_of w) (natural w.hour) (natural w.zone) (rows_of w)
 unfolding file_text text_of
 text_obeys w c f =
     let k = columns w c in
@@ -71,10 +68,10 @@ some_bytes [] h = h
 some_bytes (x ∷ s) h = omega arith
 
 -- the content of rows, in a file of the hour h and the zone z
-abbrev pub content_of : ℕ → Zone → List Row → Content
+abbrev pub content_of : ℕ → ℕ → List Row → Content
 content_of h z rows = record {
   hour = pos h;
-  zone = pos (zone_number z);
+  zone = pos z;
   users = pos (length rows);
   entry = map (λ r. r.entry) rows;
   exit = map (λ r. r.exit) rows;
@@ -82,19 +79,22 @@ content_of h z rows = record {
   pooling = map (λ r. r.pooling) rows;
 }
 
--- where the hour is that of each row, it is as small as the first row's
-first_small : (h : ℕ) (rows : List Row) → 1 ≤ length rows → All NineDigits rows → map (λ r. r.hour) rows ≡ replicate (length rows) h → h < 10 ^ 9
-first_small h [] l n p = absurd (omega arith)
-first_small h (r ∷ rows) l n p =
+-- where the hour and the zone are those of each row, they are as small as the first row's
+first_small : (h z : ℕ) (rows : List Row) → 1 ≤ length rows → All NineDigits rows
+    → map (λ r. r.hour) rows ≡ replicate (length rows) h → map (λ r. r.zone) rows ≡ replicate (length rows) z
+    → (h < 10 ^ 9) × (z ≤ 1)
+first_small h z [] l n p q = absurd (omega arith)
+first_small h z (r ∷ rows) l n p q =
     let hour : r.hour ≡ h = cc in
-    omega (arith, n.0.hour)
+    let zone : r.zone ≡ z = cc in
+    (omega (arith, n.0.hour), omega (arith, n.0.zone))
 
 -- a column of small amounts
 column : (f : Row → ℤ) → ((r : Row) → NineDigits r → nat_abs (f r) < 10 ^ 9) → (rows : List Row) → All NineDigits rows → AtMost nine_digits_most (map f rows)
 column f g [] n = record { at = λ i. zero-le }
 column f g (r ∷ rows) n = at_most_cons (omega (arith, g r n.0)) (column f g rows n.1)
 
-module _ {s : List ℕ} {h : ℕ} {z : Zone} {rows : List Row} (o : Obeys s h z rows) where
+module _ {s : List ℕ} {h z : ℕ} {rows : List Row} (o : Obeys s h z rows) where
   -- their text is the file, if it has no point
   pub file_text_lem : (before : List ℕ) → s ≡ before ++ line_end → NoPoint s → file_text rows ≡ s
   unfolding file_text
@@ -113,9 +113,9 @@ module _ {s : List ℕ} {h : ℕ} {z : Zone} {rows : List Row} (o : Obeys s h z 
   nine : All NineDigits rows
   nine = rows_nine (lines_of s) rows o.standing.each
 
-  -- and so is the hour
-  small : h < 10 ^ 9
-  small = first_small h rows o.some nine o.standing.hours
+  -- and so are the hour and the zone
+  small : (h < 10 ^ 9) × (z ≤ 1)
+  small = first_small h z rows o.some nine o.standing.hours o.standing.zones
 
   -- neither 18 nor 19 turns their content away
   pub again_fit : Fit (content_of h z rows)
@@ -124,14 +124,14 @@ module _ {s : List ℕ} {h : ℕ} {z : Zone} {rows : List Row} (o : Obeys s h z 
     users = refl;
     some = o.some;
     few = o.standing.few;
-    zone = zone_is _ (zone_number z) refl (zone_most z);
+    zone = zone_is (pos z) z refl small.1;
     entry = length-map rows _;
     exit = length-map rows _;
     title = length-map rows _;
     pooling = length-map rows _;
     h = h;
     hour = refl;
-    short = omega (arith, small);
+    short = omega (arith, small.0);
     entries = column (λ r. r.entry) (λ r n. n.entry) rows nine;
     exits = column (λ r. r.exit) (λ r n. n.exit) rows nine;
     titles = column (λ r. r.title) (λ r n. n.title) rows nine;
@@ -145,4 +145,4 @@ module _ {s : List ℕ} {h : ℕ} {z : Zone} {rows : List Row} (o : Obeys s h z 
       let w = content_of h z rows in
       let t = o.standing in
       same_columns w (rows_of w) rows (columns w (counted_means w (fit_counted w again_fit)))
-      (record { hours = t.hours; zones = rw (zone_again z) t.zones; places = t.places; entries = refl; exits = refl; titles = refl; poolings = refl })
+      (record { hours = t.hours; zones = t.zones; places = t.places; entries = refl; exits = refl; titles = refl; poolings = refl })

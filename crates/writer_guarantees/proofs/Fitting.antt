@@ -16,7 +16,8 @@ use Rattle.rules.specs.Limits.{users_most, users_fit, zone_fit}
 use Rattle.allocation_row.specs.Rows.{zone_number}
 use Rattle.allocation_row.specs.declared.Zone.{Zone}
 use Rattle.allocation_row.specs.declared.Zone.TheVariants.{H, L}
-use Rattle.allocation_writer.specs.Writer.{Content, zone_by, of_count, lists_fit, count_fit, nine_digits, hour_fit, amounts_short, numbers_fit}
+use Rattle.allocation_text.specs.Text.{zone_by}
+use Rattle.allocation_writer.specs.Writer.{Content, of_count, lists_fit, count_fit, nine_digits, hour_fit, amounts_short, numbers_fit}
 use Rattle.allocation_writer.proofs.Tests.{counted_means, fitting_means, nine_means, means_nine}
 use Rattle.writer_guarantees.specs.Guarantees.{nine_digits_most, Fit}
 
@@ -29,16 +30,17 @@ zone_is x (suc zero) e h = inr (sym e)
 zone_is x (suc (suc n)) e h = absurd (omega arith)
 
 -- a zone by its number
-pub zone_again : (z : Zone) → zone_by (pos (zone_number z)) ≡ z
-unfolding zone_by natural
+pub zone_again : (z : Zone) → zone_by (zone_number z) ≡ z
+unfolding zone_by
 zone_again H = refl
 zone_again L = refl
 
 -- and a number by its zone
-pub number_again : (x : ℤ) → (x ≡ pos 0) ⊎ (x ≡ pos 1) → pos (zone_number (zone_by x)) ≡ x
-unfolding zone_by natural
-number_again x (inl e) = rw e
-number_again x (inr e) = rw e
+pub number_again : (n : ℕ) → n ≤ 1 → zone_number (zone_by n) ≡ n
+unfolding zone_by
+number_again zero h = refl
+number_again (suc zero) h = refl
+number_again (suc (suc n)) h = absurd (omega arith)
 
 amounts_short_lem : (xs : List ℤ) → every nine_digits xs ≡ true → AtMost nine_digits_most xs
 amounts_short_lem = every_at_most nine_digits nine_digits_most (λ x e. omega (arith, nine_means x e))

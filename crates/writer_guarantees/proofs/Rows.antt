@@ -13,17 +13,18 @@ use Rattle.integers.proofs.Tests.{and_true}
 use Rattle.text.specs.Bytes.{comma, quote_mark, carriage_return, line_feed}
 use Rattle.text.specs.Numbers.{has_point}
 use Rattle.csv_lines.specs.Lines.{fields, field_at, lines}
-use Rattle.allocation_row.specs.Rows.{is_plain, is_form, letter, zone_of, as_row, row_of, fields_of as row_fields}
+use Rattle.allocation_row.specs.Rows.{is_plain, is_form, letter, zone_number, zone_of, as_row, row_of, fields_of as row_fields}
 use Rattle.allocation_row.specs.declared.Row.{Row}
 use Rattle.allocation_row.specs.declared.Zone.{Zone}
 use Rattle.allocation_row.specs.declared.Zone.TheVariants.{H, L}
 use Rattle.allocation_row.specs.declared.FileCause.TheVariants.{Form, Field}
-use Rattle.allocation_text.specs.Text.{field_texts, joined, line_text}
+use Rattle.allocation_text.specs.Text.{zone_by, field_texts, joined, line_text}
 use Rattle.allocation_writer.specs.Writer.{ended}
 use Rattle.file_guarantees.specs.Guarantees.{NineDigits}
 use Rattle.file_guarantees.proofs.Rows.{MadeOf, made_of}
 use Rattle.file_guarantees.proofs.Guarantees.{small_numbers}
 use Rattle.writer_guarantees.proofs.Lists.{All, Above, above-less, all_every, tabulate_own}
+use Rattle.writer_guarantees.proofs.Fitting.{zone_again, number_again}
 use Rattle.writer_guarantees.proofs.Numbers.{unsigned_back, unsigned_text, amount_back, amount_text, digits_above, decimal-above}
 use Rattle.writer_guarantees.proofs.Sizes.{Short}
 use Rattle.writer_guarantees.proofs.Points.{NoPoint, field_no_point}
@@ -48,6 +49,10 @@ zone_text_lem (x ∷ []) z e = go (eqb x (letter H)) (eqb x (letter L)) refl ref
     go false false h l e = let q : ◌≡◌ {A = ℕ} 0 1 = cc in absurd (omega arith)
 zone_text_lem (x ∷ y ∷ ys) z e = let q : ◌≡◌ {A = ℕ} 0 1 = cc in absurd (omega arith)
 
+-- and by its number
+zone_text_by : (f : List ℕ) (z : Zone) (n : ℕ) → zone_of f ≡ Some z → zone_number z ≡ n → f ≡ letter (zone_by n) ∷ []
+zone_text_by f z n e q = zone_text_lem f z e ∙ rw (← q, zone_again z)
+
 -- a letter is above the comma
 letter-above : (z : Zone) → comma < letter z
 letter-above H = omega arith
@@ -60,7 +65,7 @@ fields-above : (r : Row) → All (Above comma) (field_texts r)
 unfolding field_texts
 fields-above r =
     let d = decimal-above in
-    (digits_above _, ((letter-above r.zone, tt), (digits_above _, (d _, (d _, (d _, (d _, tt)))))))
+    (digits_above _, ((letter-above (zone_by r.zone), tt), (digits_above _, (d _, (d _, (d _, (d _, tt)))))))
 
 -- every byte of it is above the quote mark
 line-above : (r : Row) → Above quote_mark (line_text r)
@@ -91,12 +96,13 @@ row_back r n =
       plain (line_text r) (line-above r),
       line-fields r,
       unsigned_back r.hour n.hour,
-      zone_back r.zone,
+      zone_back (zone_by r.zone),
       unsigned_back r.place n.place,
       amount_back r.entry n.entry,
       amount_back r.exit n.exit,
       amount_back r.title n.title,
       amount_back r.pooling n.pooling,
+      number_again r.zone n.zone,
     )
 
 -- a line that is read has the right form
@@ -117,7 +123,7 @@ row_text l r h e =
     let all = rw seven at (tabulate_own [] (fields l)) in
     let are : fields l ≡ field_texts r = sym all ∙ rw (
       unsigned_text (field_at 0 l) r.hour m.hour,
-      zone_text_lem (field_at 1 l) r.zone m.zone,
+      zone_text_by (field_at 1 l) m.said r.zone m.says m.zone,
       unsigned_text (field_at 2 l) r.place m.place,
       amount_text (field_at 3 l) r.entry (p 3) m.entry,
       amount_text (field_at 4 l) r.exit (p 4) m.exit,

@@ -7,19 +7,20 @@ use Rattle.text.specs.Puts.{Room}
 use Rattle.text.proofs.Puts.{Writing, writing_starts, part-fits, part_written, writing_ends}
 use Rattle.allocation_row.specs.Rows.{letter}
 use Rattle.allocation_row.specs.declared.Row.{Row}
+use Rattle.allocation_text.specs.Text.{zone_by}
 use Rattle.allocation_text.specs.Steps.{start_text}
 use Rattle.allocation_text.proofs.write_start.Goals.{After-bytes}
 use Rattle.allocation_text.proofs.write_start.Goals as goal
 
 -- nothing is written yet
 starts : (w : Writer) (r : Row) → Room w (length (start_text r))
-    → Writing w (start_text r) w (digits r.hour ∷ (comma ∷ letter r.zone ∷ comma ∷ []) ∷ digits r.place ∷ (comma ∷ []) ∷ [])
+    → Writing w (start_text r) w (digits r.hour ∷ (comma ∷ letter (zone_by r.zone) ∷ comma ∷ []) ∷ digits r.place ∷ (comma ∷ []) ∷ [])
 unfolding start_text
 starts w r room = writing_starts (start_text r) _ refl room
 
 -- the hour and the zone are written
 zone : (c : After-bytes) → Writing c.args.writer.now (start_text c.args.row) c.bytes.new.self (digits c.args.row.place ∷ (comma ∷ []) ∷ [])
-zone c = part_written (part_written (starts c.args.writer.now c.args.row c.requires) c.digits.ensures) (rw c.letter.ensures at c.bytes.ensures)
+zone c = part_written (part_written (starts c.args.writer.now c.args.row c.requires) c.digits.ensures) (rw (c.letter.ensures, c.zone_by.ensures) at c.bytes.ensures)
 
 pub digits-requires : goal.digits-requires
 digits-requires c = part-fits (starts c.args.writer.now c.args.row c.requires)

@@ -16,11 +16,11 @@ use Rattle.positions.proofs.Before.{length-befores}
 use Rattle.amounts.proofs.Sizes.{before_most, befores_small}
 use borrow.Author.Rules.{rules}
 use native.Mathlib.Omega.{arith}
-use Rattle.amounts.proofs.befores_of.Goals.{After-fits-fit}
+use Rattle.amounts.proofs.befores_of.Goals.{After-is_position-fit}
 use Rattle.amounts.proofs.befores_of.Goals as goal
 
 -- the position that is looked at, and added
-before : (c : After-fits-fit) → to_z w64 (of_z w64 c.before_at-before.result) ≡ get_or (befores c.args.part.now c.args.amounts.now) c.loop-user.user (pos 0)
+before : (c : After-is_position-fit) → to_z w64 (of_z w64 c.before_at-before.result) ≡ get_or (befores c.args.part.now c.args.amounts.now) c.loop-user.user (pos 0)
 before c = back _ c.before_at-before.type_inv ∙ c.before_at-before.ensures
 
 pub loop-user-init : goal.loop-user-init
@@ -40,7 +40,7 @@ loop-user-preserved c =
     let l = c.loop-user in
     let ps = befores c.args.part.now c.args.amounts.now in
     let within : l.user < length ps = omega (arith, length-befores c.args.part.now c.args.amounts.now, c.loop-user-test.true) in (
-      ap₂ (λ (x y : Bool). x && y) l.invariant.0 (rw (before c) at c.fits-fit.ensures) ∙ sym (every-step position_fit (pos 0) ps l.user within),
+      ap₂ (λ (x y : Bool). x && y) l.invariant.0 (rw (before c) at c.is_position-fit.ensures) ∙ sym (every-step position_fit (pos 0) ps l.user within),
       added_next ps l.user l.market-bits _ l.invariant.1 (before c) within (overflow_add-market c),
     )
 

@@ -24,6 +24,6 @@ returns c =
     let e = read (fits k.excess_price (omega (arith, b.excess))) in
     let f = read (fits k.shortfall_price (omega (arith, b.shortfall))) in
     part_left c.requires _ _ (record { quantity = search rules; money = search rules })
-    c.copy_from_slice.ensures.after
+    c.copy_all.ensures
     (rw (e, f) at c.money_all.ensures)
     (c.fill.ensures.after (λ (x : ℤ) (e : x ≡ pos 0). e))

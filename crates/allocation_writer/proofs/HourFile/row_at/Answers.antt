@@ -1,4 +1,4 @@
--- Each number is read at its place; the hour fits. Assumes nothing.
+-- Each number is read at its place; the hour and the zone fit. Assumes nothing.
 use mathlib.Core.Path.{◌≡◌, ap}
 use Prim.Native.Nat.{ℕ, ◌^◌, ◌<◌}
 use native.Mathlib.Omega.{arith}
@@ -22,6 +22,11 @@ overflow_cast-result c =
     let f = c.requires.0.1 in
     cast (back c.args.self.now.hour (search rules)) f.hour (omega (arith, f.short, ap nat_abs f.hour))
 
+pub overflow_cast-result-2 : goal.overflow_cast-result-2
+overflow_cast-result-2 c =
+    let k = c.requires.0.0 in
+    cast (back c.args.self.now.zone (search rules)) k.zone (omega (arith, k.zones))
+
 pub returns : goal.returns
 unfolding row_at
 returns c =
@@ -30,11 +35,11 @@ returns c =
     let p = c.args.place in
     rw (
       back s.hour (search rules),
-      c.zone_by.ensures,
       back s.zone (search rules),
       back (get_or a.entries.now p (pos 0)) (search rules),
       back (get_or a.exits.now p (pos 0)) (search rules),
       back (get_or a.titles.now p (pos 0)) (search rules),
       back (get_or a.poolings.now p (pos 0)) (search rules),
       ap nat_abs c.requires.0.1.hour,
+      ap nat_abs c.requires.0.0.zone,
     )
